@@ -1,0 +1,4 @@
+-- What holds of ranks.
+pub mod Away
+pub mod Share
+pub mod Monotone

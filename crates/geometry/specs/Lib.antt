@@ -1,0 +1,9 @@
+-- The definitions that the contracts cite, a file for each subject.
+pub mod Float
+pub mod Literals
+pub mod Units
+pub mod Root
+pub mod Whole
+pub mod Point
+pub mod Score
+pub mod Rank

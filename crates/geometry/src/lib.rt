@@ -1,0 +1,6 @@
+// Floats: points, the square root, the score of an element, the box with its ranks and caps, and
+// fields. Every function is total, and its contract is an equation with a definition of specs/.
+pub mod float;
+pub mod point;
+pub mod root;
+pub mod score;
