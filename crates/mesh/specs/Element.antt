@@ -1,0 +1,52 @@
+-- Elements, their faces, and a face's key and parity (document 01, "Runs of passes"; `tet_faces`, `face_key` and `face_parity` of
+-- lib.rs). Definitions only.
+use Prim.Native.Nat.{ℕ, zero, suc, _+_, _*_, _%_}
+use mathlib.Core.Bool.{Bool, true, false, cond, _&&_}
+use mathlib.Core.List.{List, [], _∷_, _++_}
+use lib.Dec.{ltb, leb, eqb}
+use lib.ListN.{getD, drop}
+use Rattle.mesh.specs.declared.element.Tet.{Tet}
+use Rattle.mesh.specs.declared.element.Triple.{Triple}
+
+abbrev pub triple : ℕ → ℕ → ℕ → Triple
+triple a b c = record { a = a; b = b; c = c }
+
+abbrev pub tet : ℕ → ℕ → ℕ → ℕ → Tet
+tet a b c d = record { a = a; b = b; c = c; d = d }
+
+-- "An element a b c d has the faces a b d, a c b, a d c and b c d"
+abbrev pub facesOf : Tet → List Triple
+facesOf t = triple (t .a) (t .b) (t .d) ∷ triple (t .a) (t .c) (t .b) ∷ triple (t .a) (t .d) (t .c) ∷ triple (t .b) (t .c) (t .d) ∷ []
+
+-- the face k of an element, in that order from 0; from 3 on the last
+abbrev pub faceOf : Tet → ℕ → Triple
+faceOf t k = getD (facesOf t) k (triple (t .b) (t .c) (t .d))
+
+-- the three numbers with the first two, or the last two, exchanged where they fall
+unfoldable pub sortFirst : Triple → Triple
+sortFirst f = cond (ltb (f .b) (f .a)) (triple (f .b) (f .a) (f .c)) f
+
+unfoldable pub sortLast : Triple → Triple
+sortLast f = cond (ltb (f .c) (f .b)) (triple (f .a) (f .c) (f .b)) f
+
+-- "A face's key is its three numbers sorted"
+unfoldable pub keyOf : Triple → Triple
+unfolding sortFirst sortLast
+keyOf f = sortFirst (sortLast (sortFirst f))
+
+-- 1 where x is above y, else 0
+abbrev pub above : ℕ → ℕ → ℕ
+above x y = cond (ltb y x) 1 0
+
+-- "its parity is 1 where an odd number of exchanges sorts it, else 0": each pair that stands in falling order is one exchange of neighbours
+unfoldable pub parityOf : Triple → ℕ
+parityOf f = (above (f .a) (f .b) + above (f .a) (f .c) + above (f .b) (f .c)) % 2
+
+-- the first n elements of a list of words, four words each; a word past the end counts as 0
+unfoldable pub tets : ℕ → List ℕ → List Tet
+tets zero s = []
+tets (suc n) s = tet (getD s 0 0) (getD s 1 0) (getD s 2 0) (getD s 3 0) ∷ tets n (drop 4 s)
+
+-- the vertices of an element as a list
+abbrev pub verticesOf : Tet → List ℕ
+verticesOf t = t .a ∷ t .b ∷ t .c ∷ t .d ∷ []

@@ -1,0 +1,5 @@
+-- The definitions that the contracts cite, a file for each subject.
+pub mod Element
+pub mod Complex
+pub mod Moves
+pub mod Tests

@@ -1,0 +1,63 @@
+-- The worked examples of document 01, "Trial soil blocks", as one table of theorems about the definitions. Each field states an example
+-- in the document's order, and `table` proves them all by computation. A float is written as fin SIGN m (pos k), which is m * 2 ^ k, or
+-- fin SIGN m (negsuc k), which is m / 2 ^ (k + 1). Assumes nothing.
+use mathlib.Core.Path.{_≡_, refl}
+use mathlib.Core.Bool.{Bool, true, false}
+use lib.IntN.{pos, negsuc}
+use lib.Ieee.{Float, fin, binary64, toBits, lt, eq, add, sub, mul, div, neg}
+use Rattle.geometry.specs.declared.point.Point.{Point}
+use Rattle.geometry.specs.Float.{zero64, one64}
+use Rattle.geometry.specs.Root.{sqrt}
+use Rattle.geometry.specs.Point.{determinant}
+use Rattle.geometry.specs.Score.{R, squaredEdges, score, bad}
+
+abbrev at : Float → Float → Float → Point
+at x y z = record { x = x; y = y; z = z }
+
+abbrev two : Float
+two = fin false 1 (pos 1)
+
+abbrev nine : Float
+nine = fin false 9 (pos 0)
+
+-- the points 000, 100 and 010
+abbrev p000 : Point
+p000 = at zero64 zero64 zero64
+
+abbrev p100 : Point
+p100 = at one64 zero64 zero64
+
+abbrev p010 : Point
+p010 = at zero64 one64 zero64
+
+abbrev p001 : Point
+p001 = at zero64 zero64 one64
+
+-- (1, 1, z)
+abbrev p11 : Float → Point
+p11 z = at one64 one64 z
+
+pub record Table : Type 0 where
+  -- M1 root of 2 has bits 3FF6A09E667F3BCD
+  pub M1 : toBits binary64 (sqrt two) ≡ 0x3FF6_A09E_667F_3BCD
+  -- M2 root of 2^-1074 is 2^-537
+  pub M2 : sqrt (fin false 1 (negsuc 1073)) ≡ fin false 1 (negsuc 536)
+  -- M3 root of 9 is 3
+  pub M3 : sqrt nine ≡ fin false 3 (pos 0)
+  -- M4 points 000, 100, 010, 001: determinant 1, L 9
+  pub M4 : (determinant p000 p100 p010 p001 ≡ one64) × (squaredEdges p000 p100 p010 p001 ≡ nine)
+  -- M5 its last two vertices exchanged: -1, which is not above 0
+  pub M5 : (determinant p000 p100 p001 p010 ≡ fin true 1 (pos 0)) × (lt zero64 (determinant p000 p100 p001 p010) ≡ false)
+  -- M6 M4 doubled: the same score
+  pub M6 : score p000 (at two zero64 zero64) (at zero64 two zero64) (at zero64 zero64 two) ≡ score p000 p100 p010 p001
+  -- M7 000, 100, 010 and (1, 1, 1/16): bad; with 1/8: not bad
+  pub M7 : (bad (score p000 p100 p010 (p11 (fin false 1 (negsuc 3)))) ≡ true) × (bad (score p000 p100 p010 (p11 (fin false 1 (negsuc 2)))) ≡ false)
+
+pub table : Table
+unfolding sqrt toBits determinant squaredEdges score add sub mul div neg lt eq
+table = record { M1 = refl; M2 = refl; M3 = refl; M4 = (refl, refl); M5 = (refl, refl); M6 = refl; M7 = (refl, refl) }
+
+-- "R the f64 root of 432"
+pub r-is : sqrt (fin false 27 (pos 4)) ≡ R
+unfolding sqrt
+r-is = refl
