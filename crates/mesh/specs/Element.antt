@@ -50,3 +50,7 @@ tets (suc n) s = tet (getD s 0 0) (getD s 1 0) (getD s 2 0) (getD s 3 0) ∷ tet
 -- the vertices of an element as a list
 abbrev pub verticesOf : Tet → List ℕ
 verticesOf t = t .a ∷ t .b ∷ t .c ∷ t .d ∷ []
+
+-- the vertices of a face as a list
+abbrev pub cornersOf : Triple → List ℕ
+cornersOf f = f .a ∷ f .b ∷ f .c ∷ []

@@ -7,9 +7,10 @@ use lib.Dec.{eqb, ltb}
 use lib.ListN.{length}
 use Rattle.mesh.specs.Complex.{mem, within, keep, star}
 
-abbrev pub every : (List ℕ → Bool) → List (List ℕ) → Bool
+-- do all pass the test
+abbrev pub every {ℓ} : {A : Type ℓ} → (A → Bool) → List A → Bool
 every p [] = true
-every p (e ∷ es) = p e && every p es
+every p (x ∷ xs) = p x && every p xs
 
 abbrev pub isNil : List ℕ → Bool
 isNil [] = true
