@@ -7,6 +7,10 @@ use lib.Dec.{ltb, leb, eqb}
 use lib.ListN.{getD, drop}
 use Rattle.mesh.specs.declared.element.Tet.{Tet}
 use Rattle.mesh.specs.declared.element.Triple.{Triple}
+use Rattle.mesh.specs.declared.element.Pair.{Pair}
+
+abbrev pub pair : ℕ → ℕ → Pair
+pair a b = record { a = a; b = b }
 
 abbrev pub triple : ℕ → ℕ → ℕ → Triple
 triple a b c = record { a = a; b = b; c = c }
@@ -54,3 +58,7 @@ verticesOf t = t .a ∷ t .b ∷ t .c ∷ t .d ∷ []
 -- the vertices of a face as a list
 abbrev pub cornersOf : Triple → List ℕ
 cornersOf f = f .a ∷ f .b ∷ f .c ∷ []
+
+-- the same two numbers in the same places
+abbrev pub samePair : Pair → Pair → Bool
+samePair e f = eqb (e .a) (f .a) && eqb (e .b) (f .b)

@@ -8,3 +8,4 @@ pub mod Boundary
 pub mod Sets
 pub mod Link
 pub mod Feature
+pub mod Manifold

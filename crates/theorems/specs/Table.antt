@@ -3,13 +3,21 @@
 -- fin SIGN m (negsuc k), which is m / 2 ^ (k + 1). Assumes nothing.
 use mathlib.Core.Path.{_≡_, refl}
 use mathlib.Core.Bool.{Bool, true, false}
-use lib.IntN.{pos, negsuc}
+use mathlib.Core.List.{List, [], _∷_}
+use Prim.Native.Nat.{ℕ}
+use lib.IntN.{ℤ, pos, negsuc}
+use lib.ListN.{length}
 use lib.Ieee.{Float, fin, binary64, toBits, lt, eq, add, sub, mul, div, neg}
 use Rattle.geometry.specs.declared.point.Point.{Point}
 use Rattle.geometry.specs.Float.{zero64, one64}
 use Rattle.geometry.specs.Root.{sqrt}
 use Rattle.geometry.specs.Point.{determinant}
-use Rattle.geometry.specs.Score.{R, squaredEdges, score, bad}
+use Rattle.geometry.specs.Score.{squaredEdges, score, bad}
+use Rattle.mesh.specs.Element.{tet, triple, sortFirst, sortLast, keyOf, parityOf}
+use Rattle.mesh.specs.Boundary.{leTriple, allFaces, singles, boundaryOf}
+use Rattle.mesh.specs.Sort.{insert, sort}
+use Rattle.mesh.specs.Complex.{faces, alternating}
+use Rattle.mesh.specs.Moves.{flip23}
 
 abbrev at : Float → Float → Float → Point
 at x y z = record { x = x; y = y; z = z }
@@ -37,6 +45,13 @@ p001 = at zero64 zero64 one64
 abbrev p11 : Float → Point
 p11 z = at one64 one64 z
 
+-- two elements on the face 0 1 2, and after two-to-three
+abbrev two-elements : List (List ℕ)
+two-elements = (0 ∷ 1 ∷ 2 ∷ 3 ∷ []) ∷ (0 ∷ 2 ∷ 1 ∷ 4 ∷ []) ∷ []
+
+abbrev three-elements : List (List ℕ)
+three-elements = flip23 3 4 0 1 2 two-elements
+
 pub record Table : Type 0 where
   -- M1 root of 2 has bits 3FF6A09E667F3BCD
   pub M1 : toBits binary64 (sqrt two) ≡ 0x3FF6_A09E_667F_3BCD
@@ -52,12 +67,27 @@ pub record Table : Type 0 where
   pub M6 : score p000 (at two zero64 zero64) (at zero64 two zero64) (at zero64 zero64 two) ≡ score p000 p100 p010 p001
   -- M7 000, 100, 010 and (1, 1, 1/16): bad; with 1/8: not bad
   pub M7 : (bad (score p000 p100 p010 (p11 (fin false 1 (negsuc 3)))) ≡ true) × (bad (score p000 p100 p010 (p11 (fin false 1 (negsuc 2)))) ≡ false)
+  -- M10 parities of (0,1,2), (0,2,1), (2,0,1): 0, 1, 0
+  pub M10 : (parityOf (triple 0 1 2) ≡ 0) × (parityOf (triple 0 2 1) ≡ 1) × (parityOf (triple 2 0 1) ≡ 0)
+  -- M11 one element 0 1 2 3: surface 013, 021, 032, 123
+  pub M11 : boundaryOf (tet 0 1 2 3 ∷ []) ≡ triple 0 1 3 ∷ triple 0 2 1 ∷ triple 0 3 2 ∷ triple 1 2 3 ∷ []
+  -- M12 two elements on a face: 5−9+7−2 = 1
+  pub M12-two : (faces 1 5 two-elements ≡ 5) × (faces 2 5 two-elements ≡ 9) × (faces 3 5 two-elements ≡ 7) × (length two-elements ≡ 2) × (alternating 5 two-elements ≡ pos 1)
+  -- after two-to-three 5−10+9−3 = 1
+  pub M12-three : (faces 1 5 three-elements ≡ 5) × (faces 2 5 three-elements ≡ 10) × (faces 3 5 three-elements ≡ 9) × (length three-elements ≡ 3) × (alternating 5 three-elements ≡ pos 1)
 
 pub table : Table
-unfolding sqrt toBits determinant squaredEdges score add sub mul div neg lt eq
-table = record { M1 = refl; M2 = refl; M3 = refl; M4 = (refl, refl); M5 = (refl, refl); M6 = refl; M7 = (refl, refl) }
-
--- "R the f64 root of 432"
-pub r-is : sqrt (fin false 27 (pos 4)) ≡ R
-unfolding sqrt
-r-is = refl
+unfolding sqrt toBits determinant squaredEdges score add sub mul div neg lt eq sortFirst sortLast keyOf parityOf leTriple allFaces singles boundaryOf insert sort faces
+table = record {
+  M1 = refl;
+  M2 = refl;
+  M3 = refl;
+  M4 = (refl, refl);
+  M5 = (refl, refl);
+  M6 = refl;
+  M7 = (refl, refl);
+  M10 = (refl, refl, refl);
+  M11 = refl;
+  M12-two = (refl, refl, refl, refl, refl);
+  M12-three = (refl, refl, refl, refl, refl);
+}

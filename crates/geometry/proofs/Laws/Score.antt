@@ -3,3 +3,4 @@ pub mod Near
 pub mod Symmetry
 pub mod Quality
 pub mod Finite
+pub mod Constant

@@ -1,0 +1,58 @@
+-- Whether a surface has a nonmanifold vertex (document 01, number 22; `nonmanifold_vertices` of implicit.rs, on values): an edge that is
+-- not on exactly two triples, or a vertex whose link is not one cycle. Definitions only.
+use Prim.Native.Nat.{ℕ, zero, suc, min, max}
+use mathlib.Core.Bool.{Bool, true, false, not, cond, _&&_, _||_}
+use mathlib.Core.List.{List, [], _∷_, _++_}
+use lib.Dec.{eqb}
+use lib.ListN.{length}
+use Rattle.mesh.specs.declared.element.Pair.{Pair}
+use Rattle.mesh.specs.declared.element.Triple.{Triple}
+use Rattle.mesh.specs.Complex.{mem}
+use Rattle.mesh.specs.Tests.{every}
+use Rattle.mesh.specs.Sets.{times}
+use Rattle.mesh.specs.Element.{cornersOf, pair, samePair}
+
+-- the three edges of a triple, each with its smaller vertex first
+abbrev pub edgesOf : Triple → List Pair
+edgesOf f = pair (min (f .a) (f .b)) (max (f .a) (f .b)) ∷ pair (min (f .b) (f .c)) (max (f .b) (f .c)) ∷ pair (min (f .c) (f .a)) (max (f .c) (f .a)) ∷ []
+
+-- the edges of all triples, as often as triples have them
+unfoldable pub surfaceEdges : List Triple → List Pair
+surfaceEdges [] = []
+surfaceEdges (f ∷ fs) = edgesOf f ++ surfaceEdges fs
+
+-- is every edge on exactly two triples
+unfoldable pub edgesTwice : List Triple → Bool
+edgesTwice fs = every (λ e. eqb (times samePair e (surfaceEdges fs)) 2) (surfaceEdges fs)
+
+-- the link of v: for each place of v in a triple, the other two vertices in turn
+unfoldable pub surfaceLink : ℕ → List Triple → List Pair
+surfaceLink v [] = []
+surfaceLink v (f ∷ fs) =
+    cond (eqb (f .a) v) (pair (f .b) (f .c) ∷ []) [] ++ (cond (eqb (f .b) v) (pair (f .c) (f .a) ∷ []) [] ++ (cond (eqb (f .c) v) (pair (f .a) (f .b) ∷ []) [] ++ surfaceLink v fs))
+
+-- the vertices seen, with each that a pair joins to one of them
+unfoldable pub grow : List Pair → List ℕ → List ℕ
+grow [] seen = seen
+grow (e ∷ es) seen =
+    cond (mem (e .a) seen && not (mem (e .b) seen)) (grow es (e .b ∷ seen))
+    (cond (mem (e .b) seen && not (mem (e .a) seen)) (grow es (e .a ∷ seen)) (grow es seen))
+
+-- n times so: each time but the last adds a vertex, so that as many times as there are pairs reach all
+unfoldable pub reach : ℕ → List Pair → List ℕ → List ℕ
+reach zero es seen = seen
+reach (suc n) es seen = reach n es (grow es seen)
+
+-- one cycle, of a link each of whose vertices is on two pairs: from its first vertex as many are reached as there are pairs
+unfoldable pub oneCycle : List Pair → Bool
+oneCycle [] = true
+oneCycle (e ∷ es) = eqb (length (reach (length (e ∷ es)) (e ∷ es) (e .a ∷ []))) (length (e ∷ es))
+
+-- the vertices of all triples
+unfoldable pub surfaceVertices : List Triple → List ℕ
+surfaceVertices [] = []
+surfaceVertices (f ∷ fs) = cornersOf f ++ surfaceVertices fs
+
+-- 22: "a nonmanifold boundary vertex"
+unfoldable pub nonmanifold : List Triple → Bool
+nonmanifold fs = not (edgesTwice fs && every (λ v. oneCycle (surfaceLink v fs)) (surfaceVertices fs))
