@@ -1,2 +1,10 @@
 -- Laws by subject.
+pub mod Bools
+pub mod Parts
+pub mod Sort
+pub mod Unique
+pub mod Rows
+pub mod Merging
+pub mod Halves
+pub mod Areas
 pub mod Complex

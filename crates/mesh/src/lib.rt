@@ -1,3 +1,6 @@
-// Numbers: elements and their faces, sorted areas, the boundary, intake, links and groups. Every
-// public function is total, and its contract is an equation with a definition of specs/.
+// Numbers: words and rows in lent areas, elements and their faces, the boundary, intake, links and
+// groups. Every public function is total, and its contract is an equation with a definition of
+// specs/.
 pub mod element;
+pub mod rows;
+pub mod words;

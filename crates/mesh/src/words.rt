@@ -1,0 +1,73 @@
+// Total accessors: a read past the end is 0, a write past the end does nothing.
+ghost use mathlib.Core.Path.{_≡_};
+ghost use Prim.Native.Nat.{_+_, _≤_, _<_};
+ghost use lib.ListN.{length, drop, set};
+ghost use lib.Seq.{paste};
+ghost use Rattle.mesh.specs.Words.{wordAt, floatAt, zeroWords, zeroFloats};
+
+// The word at i, and 0 past the end.
+pub fn word(s: &[u32], i: usize) -> u32
+    ensures { λ r. ⌜ r ≡ wordAt (now (s .entry)) i ⌝ }
+{
+    if i < s.len() { s[i] } else { 0 }
+}
+
+// Writes v at i, and nothing past the end.
+pub fn put_word(s: &mut [u32], i: usize, v: u32)
+    ensures { λ _. ⌜ now (s .exit) ≡ set (now (s .entry)) i v ⌝ }
+{
+    if i < s.len() {
+        s[i] = v;
+    }
+}
+
+// The float at i, and +0.0 past the end.
+pub fn float(s: &[f64], i: usize) -> f64
+    ensures { λ r. ⌜ r ≡ floatAt (now (s .entry)) i ⌝ }
+{
+    if i < s.len() { s[i] } else { 0.0 }
+}
+
+// Writes v at i, and nothing past the end.
+pub fn put_float(s: &mut [f64], i: usize, v: f64)
+    ensures { λ _. ⌜ now (s .exit) ≡ set (now (s .entry)) i v ⌝ }
+{
+    if i < s.len() {
+        s[i] = v;
+    }
+}
+
+// All words 0.
+pub fn clear(s: &mut [u32])
+    ensures { λ _. ⌜ now (s .exit) ≡ zeroWords (length (now (s .entry))) ⌝ }
+{
+    let mut i = 0;
+    while i < s.len() {
+        s[i] = 0;
+        i += 1;
+    }
+}
+
+// All floats +0.0.
+pub fn clear_floats(s: &mut [f64])
+    ensures { λ _. ⌜ now (s .exit) ≡ zeroFloats (length (now (s .entry))) ⌝ }
+{
+    let mut i = 0;
+    while i < s.len() {
+        s[i] = 0.0;
+        i += 1;
+    }
+}
+
+// Copies the n words at i to k, which is below them or past their end.
+pub(crate) fn copy_words(s: &mut [u32], i: usize, k: usize, n: usize)
+    requires { ⌜ (i + n ≤ length (now s)) × (k + n ≤ length (now s)) × (i < k → i + n ≤ k) ⌝ }
+    ensures { λ _. ⌜ now (s .exit) ≡ paste (now (s .entry)) k (drop i (now (s .entry))) n ⌝ }
+{
+    let mut p = 0;
+    while p < n {
+        let x = s[i + p];
+        s[k + p] = x;
+        p += 1;
+    }
+}
