@@ -2,4 +2,6 @@
 pub mod Float
 pub mod Root
 pub mod Score
+pub mod Box
 pub mod Rank
+pub mod Word

@@ -6,4 +6,7 @@ pub mod Root
 pub mod Whole
 pub mod Point
 pub mod Score
+pub mod Bounds
 pub mod Rank
+pub mod Field
+pub mod Word

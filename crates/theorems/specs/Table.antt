@@ -13,6 +13,9 @@ use Rattle.geometry.specs.Float.{zero64, one64}
 use Rattle.geometry.specs.Root.{sqrt}
 use Rattle.geometry.specs.Point.{determinant}
 use Rattle.geometry.specs.Score.{squaredEdges, score, bad}
+use Rattle.geometry.specs.declared.bounds.Options.{Options}
+use Rattle.geometry.specs.Bounds.{canonical}
+use Rattle.geometry.specs.Rank.{nearestAway, rankValue, rank}
 use Rattle.mesh.specs.Element.{tet, triple, sortFirst, sortLast, keyOf, parityOf}
 use Rattle.mesh.specs.Boundary.{leTriple, allFaces, singles, boundaryOf}
 use Rattle.mesh.specs.Sort.{insert, sort}
@@ -45,6 +48,15 @@ p001 = at zero64 zero64 one64
 abbrev p11 : Float → Point
 p11 z = at one64 one64 z
 
+-- box 0 to 1 with the periodic bits given
+abbrev unit-box : ℕ → Options
+unit-box periodic = record {
+  bounds = record { lo = p000; hi = at one64 one64 one64 };
+  cells = record { x = 1; y = 1; z = 1 };
+  periodic = periodic;
+  passes = 1;
+}
+
 -- two elements on the face 0 1 2, and after two-to-three
 abbrev two-elements : List (List ℕ)
 two-elements = (0 ∷ 1 ∷ 2 ∷ 3 ∷ []) ∷ (0 ∷ 2 ∷ 1 ∷ 4 ∷ []) ∷ []
@@ -67,6 +79,10 @@ pub record Table : Type 0 where
   pub M6 : score p000 (at two zero64 zero64) (at zero64 two zero64) (at zero64 zero64 two) ≡ score p000 p100 p010 p001
   -- M7 000, 100, 010 and (1, 1, 1/16): bad; with 1/8: not bad
   pub M7 : (bad (score p000 p100 p010 (p11 (fin false 1 (negsuc 3)))) ≡ true) × (bad (score p000 p100 p010 (p11 (fin false 1 (negsuc 2)))) ≡ false)
+  -- M8 box 0 to 1, value 2^-12: rank 24,414,063
+  pub M8 : rank (at (fin false 1 (negsuc 11)) zero64 zero64) (unit-box 0) ≡ record { x = 24414063; y = 0; z = 0 }
+  -- M9 value 1: rank 100,000,000,000, periodic 0
+  pub M9 : (rank p100 (unit-box 0) ≡ record { x = 100000000000; y = 0; z = 0 }) × (rank p100 (unit-box 1) ≡ record { x = 0; y = 0; z = 0 })
   -- M10 parities of (0,1,2), (0,2,1), (2,0,1): 0, 1, 0
   pub M10 : (parityOf (triple 0 1 2) ≡ 0) × (parityOf (triple 0 2 1) ≡ 1) × (parityOf (triple 2 0 1) ≡ 0)
   -- M11 one element 0 1 2 3: surface 013, 021, 032, 123
@@ -77,7 +93,7 @@ pub record Table : Type 0 where
   pub M12-three : (faces 1 5 three-elements ≡ 5) × (faces 2 5 three-elements ≡ 10) × (faces 3 5 three-elements ≡ 9) × (length three-elements ≡ 3) × (alternating 5 three-elements ≡ pos 1)
 
 pub table : Table
-unfolding sqrt toBits determinant squaredEdges score add sub mul div neg lt eq sortFirst sortLast keyOf parityOf leTriple allFaces singles boundaryOf insert sort faces
+unfolding canonical nearestAway rankValue rank sqrt toBits determinant squaredEdges score add sub mul div neg lt eq sortFirst sortLast keyOf parityOf leTriple allFaces singles boundaryOf insert sort faces
 table = record {
   M1 = refl;
   M2 = refl;
@@ -86,6 +102,8 @@ table = record {
   M5 = (refl, refl);
   M6 = refl;
   M7 = (refl, refl);
+  M8 = refl;
+  M9 = (refl, refl);
   M10 = (refl, refl, refl);
   M11 = refl;
   M12-two = (refl, refl, refl, refl, refl);

@@ -1,74 +1,83 @@
--- The whole part of q, and q without it, which f64 holds exactly. Assumes nothing.
+-- `nearestAway` by its cases: below 2 ^ 52 the whole part and a test of the rest, which f64 holds exactly; from there on the value is whole. Assumes nothing.
 use mathlib.Core.Path.{_≡_, refl, sym, ap, _∙_, subst}
-use mathlib.Core.Logic.{_⊎_, inl, inr}
 use Prim.Native.Nat.{ℕ, zero, suc, _+_, _-_, _*_, _/_, _%_, _^_, _≤_, _<_, zero-le, min}
-use native.Mathlib.Nat.{le-trans, le-of-eq, le-of-lt, lt-of-lt-of-le, lt-of-le-of-lt, not-le-of-lt, mul-comm, mul-assoc, mul-right-comm, mul-pos, mul-sub, zero-mul, one-mul, mul-one, mul-le-mul-right, mul-lt-mul-of-pos-right, lt-of-mul-lt-mul-right, le-of-mul-le-mul-right, div-add-mod', mod-lt, mod-one, mod-le, add-sub-cancel-left, div-lt-iff-lt-mul, zero-lt-suc, lt-irrefl, div-mul-le-self, zero-div, zero-mod, le-add-right, le-add-left, add-mul, add-zero, eq-of-mul-eq-mul-left}
+use native.Mathlib.Nat.{le-trans, le-of-eq, le-of-lt, lt-of-lt-of-le, lt-of-le-of-lt, not-le-of-lt, mul-comm, mul-assoc, mul-right-comm, mul-pos, zero-mul, one-mul, mul-one, mul-le-mul-right, mul-le-mul-left, mul-lt-mul-of-pos-right, lt-of-mul-lt-mul-right, le-of-mul-le-mul-right, div-add-mod', mod-one, mod-le, add-sub-cancel-left, div-lt-iff-lt-mul, le-div-iff-mul-le, zero-lt-suc, zero-div, zero-mod, le-add-right, add-mul, add-zero, eq-of-mul-eq-mul-left}
 use native.Mathlib.Omega.{arith}
-use mathlib.Core.Bool.{Bool, true, false, not, cond, _&&_, true≢false}
+use mathlib.Core.Bool.{Bool, true, false, not, cond, true≢false}
 use lib.IntN.{ℤ, pos, negsuc}
-use lib.Dec.{T, ltb, leb, eqb, lit<, lit≤, lt→ltb, le→leb, leb→le}
-use lib.Pow.{pow-add, pow-pos}
+use lib.Dec.{T, ltb, leb, lit<, lit≤, lt→ltb, le→leb, leb→le}
+use lib.Pow.{pow-pos, pow-mono}
 use lib.Ieee.{Float, nan, inf, fin, binary64, up, down, round, sum, neg, add, sub, lt, fits, toUnsigned, ofInt, inFloat}
-use lib.Ieee.Fits.{up-pos, down-pos, ofInt-fits}
+use lib.Ieee.Fits.{up-pos, down-pos}
 use lib.Ieee.Exact.{HasValue, round-exact}
 use lib.Ieee.Scale.{round-same}
-use borrow.Author.Tests.{ltb-true, ltb-false, lt-ltb, le-ltb, le-leb, lt-leb}
-use Rattle.geometry.specs.Units.{Within, NotNegative}
-use Rattle.geometry.proofs.Laws.Float.Units.{place, Place}
-use Rattle.geometry.proofs.Laws.Float.Sign.{Signed, round-signed}
-use Rattle.geometry.specs.Rank.{nearestAway}
+use borrow.Author.Tests.{ltb-true, ltb-false, le-ltb, le-leb, lt-leb}
+use Rattle.geometry.specs.Float.{zero64}
+use Rattle.geometry.specs.Units.{Within}
+use Rattle.geometry.specs.Rank.{nearestWhole, nearestAway}
+use Rattle.geometry.proofs.Laws.Float.Units.{place}
+
+-- 2 ^ 52 and 2 ^ 64
+abbrev pub p52 : Float
+p52 = fin false 1 (pos 52)
+
+abbrev pub p64 : Float
+p64 = fin false 1 (pos 64)
 
 -- ---- what the truncation asks
-pub above-minus-one : (q : Float) → NotNegative q → T (lt (fin true 1 (pos 0)) q)
+pub above-minus-one : (q : Float) → lt zero64 q ≡ true → T (lt (fin true 1 (pos 0)) q)
 unfolding lt
-above-minus-one nan n = absurd n
-above-minus-one (inf s) n = absurd n
-above-minus-one (fin true m e) n = lt→ltb (m * up e * 1) (1 * down e) (lt-of-le-of-lt (le-of-eq (ap (λ (z : ℕ). z * up e * 1) n ∙ ap (λ (z : ℕ). z * 1) (zero-mul (up e)))) (mul-pos (zero-lt-suc 0) (down-pos e)))
-above-minus-one (fin false m e) n = lt→ltb 0 (1 * down e + m * up e * 1) (lt-of-lt-of-le (mul-pos (zero-lt-suc 0) (down-pos e)) (le-add-right (1 * down e) (m * up e * 1)))
+above-minus-one nan h = absurd (true≢false (sym h))
+above-minus-one (inf true) h = absurd (true≢false (sym h))
+above-minus-one (inf false) h = tt
+above-minus-one (fin true m e) h = absurd (true≢false (sym h))
+above-minus-one (fin false m e) h = lt→ltb 0 (1 * down e + m * up e * 1) (lt-of-lt-of-le (mul-pos (zero-lt-suc 0) (down-pos e)) (le-add-right (1 * down e) (m * up e * 1)))
 
--- |q| is at most 2 ^ 52
-size-le : (m : ℕ) (e : ℤ) → m * up e * 2 ^ 1074 ≤ 2 ^ 1126 * down e → m * up e ≤ 2 ^ 52 * down e
-size-le m e h = le-of-mul-le-mul-right (le-trans h (le-of-eq (mul-right-comm (2 ^ 52) (2 ^ 1074) (down e)))) (pow-pos 1074)
-
-pub below-top : (q : Float) → Within (2 ^ 1126) q → T (lt q (fin false 1 (pos 64)))
+pub below-top : (q : Float) → lt zero64 q ≡ true → lt q p52 ≡ true → T (lt q p64)
 unfolding lt
-below-top nan w = absurd w
-below-top (inf s) w = absurd w
-below-top (fin true m e) w = lt→ltb 0 (m * up e * 1 + 2 ^ 64 * down e) (lt-of-lt-of-le (mul-pos (pow-pos 64) (down-pos e)) (le-add-left (2 ^ 64 * down e) (m * up e * 1)))
-below-top (fin false m e) w =
+below-top nan h k = absurd (true≢false (sym h))
+below-top (inf true) h k = absurd (true≢false (sym h))
+below-top (inf false) h k = absurd (true≢false (sym k))
+below-top (fin true m e) h k = absurd (true≢false (sym h))
+below-top (fin false m e) h k =
     lt→ltb (m * up e * 1) (2 ^ 64 * down e)
-    (lt-of-le-of-lt (le-trans (le-of-eq (mul-one (m * up e))) (size-le m e w)) (mul-lt-mul-of-pos-right (lit< {m = 2 ^ 52} {n = 2 ^ 64} tt) (down-pos e)))
+    (lt-of-lt-of-le (ltb-true (m * up e * 1) (2 ^ 52 * down e) k) (mul-le-mul-right (down e) (lit≤ {m = 2 ^ 52} {n = 2 ^ 64} tt)))
 
--- ---- the whole part
-whole-le : (m : ℕ) (e : ℤ) → m * up e * 2 ^ 1074 ≤ 2 ^ 1126 * down e → m * up e / down e ≤ 2 ^ 52
-whole-le m e h = le-of-mul-le-mul-right (le-trans (div-mul-le-self (m * up e) (down e)) (size-le m e h)) (down-pos e)
+-- ---- m * 2 ^ e below 2 ^ 52
+abbrev Small : ℕ → ℤ → Type 0
+Small m e = m * up e < 2 ^ 52 * down e
 
-cut-is : (m : ℕ) (e : ℤ) → m * up e * 2 ^ 1074 ≤ 2 ^ 1126 * down e → toUnsigned 64 (fin false m e) ≡ m * up e / down e
+small : (m : ℕ) (e : ℤ) → lt (fin false m e) p52 ≡ true → Small m e
+unfolding lt
+small m e h = lt-of-le-of-lt (le-of-eq (sym (mul-one (m * up e)))) (ltb-true (m * up e * 1) (2 ^ 52 * down e) h)
+
+whole-lt : (m : ℕ) (e : ℤ) → Small m e → m * up e / down e < 2 ^ 52
+whole-lt m e h = div-lt-iff-lt-mul (down-pos e) .1 h
+
+cut-is : (m : ℕ) (e : ℤ) → Small m e → toUnsigned 64 (fin false m e) ≡ m * up e / down e
 unfolding toUnsigned
-cut-is m e h = least (m * up e / down e) (whole-le m e h)
+cut-is m e h = least (m * up e / down e) (whole-lt m e h)
   where
-    least : (n : ℕ) → n ≤ 2 ^ 52 → min n (2 ^ 64 - 1) ≡ n
+    least : (n : ℕ) → n < 2 ^ 52 → min n (2 ^ 64 - 1) ≡ n
     least n h = omega arith
 
-cut-minus : (m : ℕ) (e : ℤ) → toUnsigned 64 (fin true m e) ≡ 0
-unfolding toUnsigned
-cut-minus m e = refl
+pub cut-lt : (q : Float) → lt zero64 q ≡ true → lt q p52 ≡ true → toUnsigned 64 q < 2 ^ 52
+unfolding lt
+cut-lt nan h k = absurd (true≢false (sym h))
+cut-lt (inf true) h k = absurd (true≢false (sym h))
+cut-lt (inf false) h k = absurd (true≢false (sym k))
+cut-lt (fin true m e) h k = absurd (true≢false (sym h))
+cut-lt (fin false m e) h k = lt-of-le-of-lt (le-of-eq (cut-is m e (small m e k))) (whole-lt m e (small m e k))
 
-pub cut-le : (q : Float) → Within (2 ^ 1126) q → toUnsigned 64 q ≤ 2 ^ 52
-cut-le nan w = absurd w
-cut-le (inf s) w = absurd w
-cut-le (fin true m e) w = le-trans (le-of-eq (cut-minus m e)) zero-le
-cut-le (fin false m e) w = le-trans (le-of-eq (cut-is m e w)) (whole-le m e w)
-
-pub in-float : (n : ℕ) → n ≤ 2 ^ 52 → T (inFloat binary64 (pos n))
+pub in-float : (n : ℕ) → n < 2 ^ 52 → T (inFloat binary64 (pos n))
 unfolding inFloat
-in-float n h = le→leb n (2 ^ 53) (le-trans h (lit≤ {m = 2 ^ 52} {n = 2 ^ 53} tt))
+in-float n h = le→leb n (2 ^ 53) (le-trans (le-of-lt h) (lit≤ {m = 2 ^ 52} {n = 2 ^ 53} tt))
 
-as-float : (n : ℕ) → n ≤ 2 ^ 52 → HasValue (ofInt binary64 (pos n)) false n 1
+as-float : (n : ℕ) → n < 2 ^ 52 → HasValue (ofInt binary64 (pos n)) false n 1
 unfolding ofInt
 as-float n h =
-    round-exact binary64 false n 1 n 1074 (zero-lt-suc 0) (lt-of-le-of-lt h (lit< {m = 2 ^ 52} {n = 2 ^ 53} tt))
-    (lt-of-le-of-lt (mul-le-mul-right (2 ^ 1074) h) (lit< {m = 2 ^ 52 * 2 ^ 1074} {n = 2 ^ 2098} tt)) (sym (mul-one (n * 2 ^ 1074)))
+    round-exact binary64 false n 1 n 1074 (zero-lt-suc 0) (lt-of-lt-of-le h (lit≤ {m = 2 ^ 52} {n = 2 ^ 53} tt))
+    (lt-of-le-of-lt (mul-le-mul-right (2 ^ 1074) (le-of-lt h)) (lit< {m = 2 ^ 52 * 2 ^ 1074} {n = 2 ^ 2098} tt)) (sym (mul-one (n * 2 ^ 1074)))
 
 -- ---- q without its whole part
 rest-is : (m : ℕ) (e : ℤ) (w : Float) → HasValue w false (m * up e / down e) 1 → sub binary64 (fin false m e) w ≡ round binary64 false (m * up e % down e) (down e)
@@ -130,59 +139,113 @@ lt-half (fin false m e) r c C h = go (ltb (m * up e * 2) (1 * down e)) (ltb (r *
     go true false a b = absurd (not-le-of-lt (fwd (ltb-true (m * up e * 2) (1 * down e) a)) (ltb-false (r * 2) c b))
     go false true a b = absurd (not-le-of-lt (back (ltb-true (r * 2) c b)) (ltb-false (m * up e * 2) (1 * down e) a))
 
-minus-lt : (v : Float) → Signed true v → lt v half ≡ true
-unfolding lt
-minus-lt nan h = absurd h
-minus-lt (inf true) h = refl
-minus-lt (inf false) h = absurd (true≢false (sym h))
-minus-lt (fin false m e) h = absurd (true≢false (sym h))
-minus-lt (fin true m e) h = lt-ltb 0 (m * up e * 2 + 1 * down e) (lt-of-lt-of-le (mul-pos (zero-lt-suc 0) (down-pos e)) (le-add-left (1 * down e) (m * up e * 2)))
+rest-test : (m : ℕ) (e : ℤ) → T (fits binary64 (fin false m e)) → Small m e → lt (sub binary64 (fin false m e) (ofInt binary64 (pos (m * up e / down e)))) half ≡ ltb (m * up e % down e * 2) (down e)
+rest-test m e f h =
+    let n = m * up e / down e in
+    let r = m * up e % down e in
+    ap (λ (z : Float). lt z half) (rest-is m e (ofInt binary64 (pos n)) (as-float n (whole-lt m e h)))
+    ∙ lt-half (round binary64 false r (down e)) r (down e) (down-pos e) (rest-exact m e f)
 
-minus-rest : (m : ℕ) (e : ℤ) (w : Float) (n : ℕ) → HasValue w false n 1 → Signed true (sub binary64 (fin true m e) w)
-unfolding sub add neg sum
-minus-rest m e nan n h = absurd h
-minus-rest m e (inf s) n h = absurd h
-minus-rest m e (fin true k d) n h = absurd (true≢false (h .0))
-minus-rest m e (fin false k d) n h = round-signed binary64 true (m * up e * down d + k * up d * down e) (down e * down d)
-
--- ---- both ways
-away-is : (s : Bool) (m : ℕ) (e : ℤ) → nearestAway (fin s m e) ≡ m * up e / down e + cond (leb (down e) (m * up e % down e * 2)) 1 0
+-- ---- the whole part n below 2 ^ 52, and one more
+away-small : (m : ℕ) (e : ℤ) → Small m e → nearestAway (fin false m e) ≡ nearestWhole m e
 unfolding nearestAway
-away-is s m e = refl
+away-small m e h = least (m * up e / down e) (leb (down e) (m * up e % down e * 2)) (whole-lt m e h)
+  where
+    least : (n : ℕ) (t : Bool) → n < 2 ^ 52 → min (n + cond t 1 0) (2 ^ 64 - 1) ≡ n + cond t 1 0
+    least n true h = omega arith
+    least n false h = omega arith
 
-plus : (m : ℕ) (e : ℤ) (t : Bool) → T (fits binary64 (fin false m e)) → Within (2 ^ 1126) (fin false m e) → lt (sub binary64 (fin false m e) (ofInt binary64 (pos (m * up e / down e)))) half ≡ t → ltb (m * up e % down e * 2) (down e) ≡ t
-plus m e t f w h =
-    let v = rest-is m e (ofInt binary64 (pos (m * up e / down e))) (as-float (m * up e / down e) (whole-le m e w)) in
-    sym (lt-half (round binary64 false (m * up e % down e) (down e)) (m * up e % down e) (down e) (down-pos e) (rest-exact m e f)) ∙ ap (λ (z : Float). lt z half) (sym v) ∙ h
+pub down-is : (q : Float) (n : ℕ) → T (fits binary64 q) → lt zero64 q ≡ true → lt q p52 ≡ true → n ≡ toUnsigned 64 q → lt (sub binary64 q (ofInt binary64 (pos n))) half ≡ true → n ≡ nearestAway q
+unfolding lt
+down-is nan n f k l e h = absurd (true≢false (sym k))
+down-is (inf true) n f k l e h = absurd (true≢false (sym k))
+down-is (inf false) n f k l e h = absurd (true≢false (sym l))
+down-is (fin true m x) n f k l e h = absurd (true≢false (sym k))
+down-is (fin false m x) n f k l e h =
+    let s = small m x l in
+    let N-is = e ∙ cut-is m x s in
+    let r = m * up x % down x in
+    let t : ltb (r * 2) (down x) ≡ true = sym (rest-test m x f s) ∙ ap (λ (z : ℕ). lt (sub binary64 (fin false m x) (ofInt binary64 (pos z))) half) (sym N-is) ∙ h in
+    N-is ∙ sym (away-small m x s ∙ ap (λ (b : Bool). m * up x / down x + cond b 1 0) (lt-leb (down x) (r * 2) (ltb-true (r * 2) (down x) t)) ∙ add-zero (m * up x / down x))
 
-pub down-is : (q : Float) (n : ℕ) → T (fits binary64 q) → NotNegative q → Within (2 ^ 1126) q → n ≡ toUnsigned 64 q → lt (sub binary64 q (ofInt binary64 (pos n))) half ≡ true → n ≡ nearestAway q
-down-is nan n f k w e h = absurd w
-down-is (inf s) n f k w e h = absurd w
-down-is (fin true m x) n f k w e h =
-    e ∙ cut-minus m x ∙ sym (away-is true m x ∙ ap (λ (z : ℕ). z * up x / down x + cond (leb (down x) (z * up x % down x * 2)) 1 0) k ∙ ap (λ (z : ℕ). z / down x + cond (leb (down x) (z % down x * 2)) 1 0) (zero-mul (up x))
-    ∙ (λ i. zero-div (down x) i + cond (leb (down x) (zero-mod (down x) i * 2)) 1 0) ∙ ap (λ (b : Bool). 0 + cond b 1 0) (lt-leb (down x) 0 (down-pos x)))
-down-is (fin false m x) n f k w e h =
-    let N-is = e ∙ cut-is m x w in
-    N-is ∙ sym (away-is false m x ∙ ap (λ (b : Bool). m * up x / down x + cond b 1 0) (lt-leb (down x) (m * up x % down x * 2) (ltb-true (m * up x % down x * 2) (down x) (plus m x true f w (ap (λ (z : ℕ). lt (sub binary64 (fin false m x) (ofInt binary64 (pos z))) half) (sym N-is) ∙ h)))) ∙ add-zero (m * up x / down x))
+pub up-is : (q : Float) (n : ℕ) → T (fits binary64 q) → lt zero64 q ≡ true → lt q p52 ≡ true → n ≡ toUnsigned 64 q → lt (sub binary64 q (ofInt binary64 (pos n))) half ≡ false → n + 1 ≡ nearestAway q
+unfolding lt
+up-is nan n f k l e h = absurd (true≢false (sym k))
+up-is (inf true) n f k l e h = absurd (true≢false (sym k))
+up-is (inf false) n f k l e h = absurd (true≢false (sym l))
+up-is (fin true m x) n f k l e h = absurd (true≢false (sym k))
+up-is (fin false m x) n f k l e h =
+    let s = small m x l in
+    let N-is = e ∙ cut-is m x s in
+    let r = m * up x % down x in
+    let t : ltb (r * 2) (down x) ≡ false = sym (rest-test m x f s) ∙ ap (λ (z : ℕ). lt (sub binary64 (fin false m x) (ofInt binary64 (pos z))) half) (sym N-is) ∙ h in
+    ap (λ (z : ℕ). z + 1) N-is ∙ sym (away-small m x s ∙ ap (λ (b : Bool). m * up x / down x + cond b 1 0) (le-leb (down x) (r * 2) (ltb-false (r * 2) (down x) t)))
 
-pub up-is : (q : Float) (n : ℕ) → T (fits binary64 q) → NotNegative q → Within (2 ^ 1126) q → n ≡ toUnsigned 64 q → lt (sub binary64 q (ofInt binary64 (pos n))) half ≡ false → n + 1 ≡ nearestAway q
-up-is nan n f k w e h = absurd w
-up-is (inf s) n f k w e h = absurd w
-up-is (fin true m x) n f k w e h =
-    absurd (true≢false (sym (minus-lt (sub binary64 (fin true m x) (ofInt binary64 (pos n))) (minus-rest m x (ofInt binary64 (pos n)) n (as-float n (le-trans (le-of-eq (e ∙ cut-minus m x)) zero-le)))) ∙ h))
-up-is (fin false m x) n f k w e h =
-    let N-is = e ∙ cut-is m x w in
-    ap (λ (z : ℕ). z + 1) N-is ∙ sym (away-is false m x ∙ ap (λ (b : Bool). m * up x / down x + cond b 1 0) (le-leb (down x) (m * up x % down x * 2) (ltb-false (m * up x % down x * 2) (down x) (plus m x false f w (ap (λ (z : ℕ). lt (sub binary64 (fin false m x) (ofInt binary64 (pos z))) half) (sym N-is) ∙ h)))))
+-- ---- from 2 ^ 52 on a value is whole: it has 53 digits at most
+pub whole-is : (q : Float) (n : ℕ) → T (fits binary64 q) → lt q p52 ≡ false → lt q p64 ≡ true → n ≡ toUnsigned 64 q → n ≡ nearestAway q
+unfolding lt toUnsigned nearestAway
+whole-is nan n f k l e = absurd (true≢false (sym l))
+whole-is (inf true) n f k l e = absurd (true≢false k)
+whole-is (inf false) n f k l e = absurd (true≢false (sym l))
+whole-is (fin true m x) n f k l e = e
+whole-is (fin false m (pos x)) n f k l e =
+    e ∙ ap (λ (z : ℕ). min z (2 ^ 64 - 1)) (sym (ap (λ (r : ℕ). m * 2 ^ x / 1 + cond (leb 1 (r * 2)) 1 0) (mod-one (m * 2 ^ x)) ∙ add-zero (m * 2 ^ x / 1)))
+whole-is (fin false m (negsuc x)) n f k l e =
+    absurd
+    (not-le-of-lt (place false m (negsuc x) f .small)
+    (le-trans (mul-le-mul-left (2 ^ 52) (pow-mono {i = 1} {j = suc x} (one-le x)))
+    (le-trans (ltb-false (m * 1 * 1) (2 ^ 52 * 2 ^ suc x) k) (le-of-eq (mul-one (m * 1) ∙ mul-one m)))))
+  where
+    one-le : (x : ℕ) → 1 ≤ suc x
+    one-le x = omega arith
+
+-- ---- from 2 ^ 64 on
+pub top-is : (q : Float) → lt zero64 q ≡ true → lt q p64 ≡ false → 2 ^ 64 - 1 ≡ nearestAway q
+unfolding lt nearestAway
+top-is nan h k = absurd (true≢false (sym h))
+top-is (inf true) h k = absurd (true≢false (sym h))
+top-is (inf false) h k = refl
+top-is (fin true m e) h k = absurd (true≢false (sym h))
+top-is (fin false m e) h k =
+    most (m * up e / down e) (leb (down e) (m * up e % down e * 2))
+    (le-div-iff-mul-le (down-pos e) .1 (le-trans (ltb-false (m * up e * 1) (2 ^ 64 * down e) k) (le-of-eq (mul-one (m * up e)))))
+  where
+    most : (n : ℕ) (t : Bool) → 2 ^ 64 ≤ n → 2 ^ 64 - 1 ≡ min (n + cond t 1 0) (2 ^ 64 - 1)
+    most n true h = omega arith
+    most n false h = omega arith
+
+-- ---- what is not above 0
+pub whole-zero : (m : ℕ) (e : ℤ) → m * up e ≡ 0 → nearestWhole m e ≡ 0
+whole-zero m e h =
+    ap (λ (z : ℕ). z / down e + cond (leb (down e) (z % down e * 2)) 1 0) h
+    ∙ (λ i. zero-div (down e) i + cond (leb (down e) (zero-mod (down e) i * 2)) 1 0)
+    ∙ ap (λ (b : Bool). 0 + cond b 1 0) (lt-leb (down e) 0 (down-pos e))
+
+pub not-above : (q : Float) → lt zero64 q ≡ false → 0 ≡ nearestAway q
+unfolding lt nearestAway
+not-above nan h = refl
+not-above (inf true) h = refl
+not-above (inf false) h = absurd (true≢false h)
+not-above (fin true m e) h = refl
+not-above (fin false m e) h = ap (λ (z : ℕ). min z (2 ^ 64 - 1)) (sym (whole-zero m e (none (m * up e) (down e) (ltb-false (0 * down e) (m * up e * 1) h))))
+  where
+    none : (a d : ℕ) → a * 1 ≤ 0 * d → a ≡ 0
+    none a d h = omega arith
 
 -- ---- what is at most 1e11 goes to a whole number that is at most 1e11
 pub away-le : (q : Float) → Within (48828125 * 2 ^ 1085) q → nearestAway q ≤ 10 ^ 11
+unfolding nearestAway
 away-le nan w = absurd w
 away-le (inf s) w = absurd w
-away-le (fin s m e) w =
-    le-trans (le-of-eq (away-is s m e))
+away-le (fin true m e) w = zero-le
+away-le (fin false m e) w =
+    cut (nearestWhole m e)
     (go (m * up e / down e) (m * up e % down e) (down e) (leb (down e) (m * up e % down e * 2)) (leb→le (down e) (m * up e % down e * 2)) (down-pos e)
     (le-trans (le-of-eq (div-add-mod' (m * up e) (down e))) (le-of-mul-le-mul-right (le-trans w (le-of-eq (mul-right-comm (10 ^ 11) (2 ^ 1074) (down e)))) (pow-pos 1074))))
   where
+    cut : (n : ℕ) → n ≤ 10 ^ 11 → min n (2 ^ 64 - 1) ≤ 10 ^ 11
+    cut n h = omega arith
+
     go : (n r d : ℕ) (t : Bool) → (T t → d ≤ r * 2) → 0 < d → n * d + r ≤ 10 ^ 11 * d → n + cond t 1 0 ≤ 10 ^ 11
     go n r d false f p h = le-trans (le-of-eq (add-zero n)) (le-of-mul-le-mul-right (le-trans (le-add-right (n * d) r) h) p)
     go n r d true f p h = subst (λ (z : ℕ). z ≤ 10 ^ 11) (one-more n) (lt-of-mul-lt-mul-right d (lt-of-lt-of-le (grown (n * d) r d (f tt) p) h))
@@ -192,3 +255,12 @@ away-le (fin s m e) w =
 
         one-more : (n : ℕ) → suc n ≡ n + 1
         one-more n = omega arith
+
+-- ---- examples: 2.5 to 3, and 0.49999999999999994 to 0, where adding a half and cutting gives 1
+half-up : nearestAway (fin false 5 (negsuc 0)) ≡ 3
+unfolding nearestAway
+half-up = refl
+
+below-half : nearestAway (fin false 9007199254740991 (negsuc 53)) ≡ 0
+unfolding nearestAway
+below-half = refl

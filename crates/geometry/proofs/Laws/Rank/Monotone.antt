@@ -1,7 +1,7 @@
 -- The rank keeps the order: for lo ≤ x ≤ y ≤ hi the rank of x is at most that of y. Assumes nothing.
 use mathlib.Core.Path.{_≡_, refl, sym, ap, _∙_, subst}
 use mathlib.Core.Logic.{_⊎_, inl, inr}
-use Prim.Native.Nat.{ℕ, zero, suc, _+_, _-_, _*_, _/_, _%_, _^_, _≤_, _<_}
+use Prim.Native.Nat.{ℕ, zero, suc, _+_, _-_, _*_, _/_, _%_, _^_, _≤_, _<_, zero-le, min}
 use native.Mathlib.Nat.{le-trans, le-of-eq, lt-of-le-of-lt, lt-irrefl, mul-le-mul-right, mul-le-mul-left, mul-assoc, mul-comm, mul-left-comm, mul-right-comm, mul-pos, zero-lt-suc, div-add-mod', mod-lt, not-le-of-lt, zero-mul}
 use native.Mathlib.Omega.{arith}
 use mathlib.Core.Bool.{Bool, true, false, not, cond}
@@ -16,15 +16,16 @@ use lib.Ieee.Nearest.{div-mono}
 use lib.Ieee.Order.{transfer}
 use lib.Ieee.Positive.{num, den, value→cross}
 use lib.Ieee.Scale.{grid, finite, round-val, round-under}
-use Rattle.geometry.specs.Units.{Within}
+use Rattle.geometry.specs.Units.{Within, NotNegative}
 use Rattle.geometry.proofs.Laws.Float.Grid.{grid-mono}
 use Rattle.geometry.proofs.Laws.Float.Sign.{round-neg}
 use Rattle.geometry.proofs.Laws.Float.Magnitude.{within-finite, within-neg}
 use Rattle.geometry.proofs.Laws.Float.Mirror.{neg-neg}
 use Rattle.geometry.proofs.Laws.Float.Spot.{spot, le-spot}
 use Rattle.geometry.proofs.Laws.Float.Diff.{Rounded, AtLeast}
-use Rattle.geometry.specs.Rank.{nearestAway, e11, share, rankOf}
-use Rattle.geometry.proofs.Laws.Rank.Share.{Between, D, E, top, bottom, top-in, bottom-least, G, G-pos, share-le, scaled-le, D-mono}
+use Rattle.geometry.specs.Rank.{nearestWhole, nearestAway, e11, share, rankValue}
+use Rattle.geometry.proofs.Laws.Rank.Share.{Between, D, E, top, bottom, top-in, bottom-least, G, G-pos, share-le, scaled-le, scaled-not-negative, D-mono}
+use Rattle.geometry.proofs.Laws.Rank.Away.{whole-zero}
 
 -- |x| ≤ |y|
 abbrev Less : Float → Float → Type 0
@@ -139,23 +140,18 @@ away-by n r d false l y f = ap (λ (z : ℕ). z / (2 * d)) (sums n r d) ∙ digi
     less : (r d : ℕ) → r * 2 < d → r * 2 + d < 2 * d
     less r d h = omega arith
 
-away-half : (s : Bool) (m : ℕ) (e : ℤ) → nearestAway (fin s m e) ≡ (2 * (m * up e) + down e) / (2 * down e)
-unfolding nearestAway
-away-half s m e =
+away-half : (m : ℕ) (e : ℤ) → nearestWhole m e ≡ (2 * (m * up e) + down e) / (2 * down e)
+away-half m e =
     let x = m * up e in
     let d = down e in
     sym (away-by (x / d) (x % d) d (leb d (x % d * 2)) (mod-lt x (down-pos e)) (leb→le d (x % d * 2)) (nleb→lt d (x % d * 2)))
     ∙ ap (λ (z : ℕ). (2 * z + d) / (2 * d)) (div-add-mod' x d)
 
-pub away-less : (A C : ℕ) (x y : Float) → Within A x → Within C y → Less x y → nearestAway x ≤ nearestAway y
-away-less A C nan y p q h = absurd p
-away-less A C (inf s) y p q h = absurd p
-away-less A C (fin s m e) nan p q h = absurd q
-away-less A C (fin s m e) (inf t) p q h = absurd q
-away-less A C (fin s m e) (fin t n d) p q h =
-    le-trans (le-of-eq (away-half s m e))
+whole-less : (m : ℕ) (e : ℤ) (n : ℕ) (d : ℤ) → m * up e * down d ≤ n * up d * down e → nearestWhole m e ≤ nearestWhole n d
+whole-less m e n d h =
+    le-trans (le-of-eq (away-half m e))
     (le-trans (div-mono (2 * (m * up e) + down e) (2 * down e) (2 * (n * up d) + down d) (2 * down d) (twice (down e) (down-pos e)) (twice (down d) (down-pos d)) (scale (m * up e) (down d) (n * up d) (down e) h))
-    (le-of-eq (sym (away-half t n d))))
+    (le-of-eq (sym (away-half n d))))
   where
     twice : (a : ℕ) → 0 < a → 0 < 2 * a
     twice a h = omega arith
@@ -163,15 +159,31 @@ away-less A C (fin s m e) (fin t n d) p q h =
     scale : (x d y e : ℕ) → x * d ≤ y * e → (2 * x + e) * (2 * d) ≤ (2 * y + d) * (2 * e)
     scale x d y e h = omega arith
 
+-- among values that are not negative
+pub away-less : (x y : Float) → NotNegative x → NotNegative y → Less x y → nearestAway x ≤ nearestAway y
+unfolding nearestAway
+away-less nan y p q h = absurd p
+away-less (inf s) y p q h = absurd p
+away-less (fin s m e) nan p q h = absurd q
+away-less (fin s m e) (inf t) p q h = absurd q
+away-less (fin true m e) (fin t n d) p q h = zero-le
+away-less (fin false m e) (fin true n d) p q h = cut (nearestWhole m e) (le-trans (whole-less m e n d h) (le-of-eq (whole-zero n d (ap (λ (z : ℕ). z * up d) q ∙ zero-mul (up d)))))
+  where
+    cut : (a : ℕ) → a ≤ 0 → min a (2 ^ 64 - 1) ≤ 0
+    cut a h = omega arith
+away-less (fin false m e) (fin false n d) p q h = cut (nearestWhole m e) (nearestWhole n d) (whole-less m e n d h)
+  where
+    cut : (a b : ℕ) → a ≤ b → min a (2 ^ 64 - 1) ≤ min b (2 ^ 64 - 1)
+    cut a b h = omega arith
+
 -- ---- the rank
-pub rank-mono : (x y lo hi : Float) → Between x lo hi → Between y lo hi → T (le x y) → rankOf x lo hi ≤ rankOf y lo hi
-unfolding rankOf
+pub rank-mono : (x y lo hi : Float) → Between x lo hi → Between y lo hi → T (le x y) → rankValue x lo hi ≤ rankValue y lo hi
+unfolding rankValue
 rank-mono x y lo hi p q h =
-    let K = 48828125 * 2 ^ 1085 in
     let sx = sub binary64 x lo in
     let sy = sub binary64 y lo in
     let sh = sub binary64 hi lo in
     let l : Less sx sy = diff-less sx sy (D x lo hi p) (D y lo hi q) (top x lo hi p) (top y lo hi q) (D-mono x y lo hi p q h) (within-finite (G y lo hi q) sy (top-in y lo hi q)) in
     let m : Less (share x lo hi) (share y lo hi) = div-less (G x lo hi p) (G y lo hi q) (G y lo hi q) (2 ^ 1074) sx sy sh (top-in x lo hi p) (top-in y lo hi q) (bottom-least y lo hi q) (G-pos y lo hi q) (share-le y lo hi q) l in
-    away-less (48828125 * 2 ^ 1085) (48828125 * 2 ^ 1085) (mul binary64 (share x lo hi) e11) (mul binary64 (share y lo hi) e11) (scaled-le x lo hi p) (scaled-le y lo hi q)
+    away-less (mul binary64 (share x lo hi) e11) (mul binary64 (share y lo hi) e11) (scaled-not-negative x lo hi p) (scaled-not-negative y lo hi q)
     (mul-less (2 ^ 1074) (2 ^ 1074) (48828125 * 2 ^ 1085) (share x lo hi) (share y lo hi) (share-le x lo hi p) (share-le y lo hi q) (scaled-le y lo hi q) m)

@@ -11,11 +11,11 @@ use lib.Ieee.Scale.{grid, finite, round-under}
 use mathlib.Core.Logic.{_⊎_, inl, inr}
 use Rattle.geometry.specs.Units.{Within, within, NotNegative}
 use Rattle.geometry.proofs.Laws.Float.Grid.{grid-mono}
-use Rattle.geometry.proofs.Laws.Float.Magnitude.{less-by, mul-within-value, within-finite, within-more}
+use Rattle.geometry.proofs.Laws.Float.Magnitude.{less-by, mul-within-value, within-finite}
 use Rattle.geometry.proofs.Laws.Float.Up.{Up, mul-up, div-up, up-not-negative}
 use Rattle.geometry.proofs.Laws.Float.Spot.{spot, lt-spot, le-spot}
 use Rattle.geometry.proofs.Laws.Float.Diff.{Rounded, sub-spot, AtLeast, rounded-up, rounded-within, rounded-at-least, grid-positive, div-within, not-zero}
-use Rattle.geometry.specs.Rank.{nearestAway, e11, share}
+use Rattle.geometry.specs.Rank.{e11, share, rankValue}
 use Rattle.geometry.proofs.Laws.Rank.Away.{away-le}
 
 pub record Between (x lo hi : Float) : Type 0 where
@@ -107,14 +107,12 @@ module _ (x lo hi : Float) (h : Between x lo hi) where
   scaled-le =
       mul-within-value (2 ^ 1074) (48828125 * 2 ^ 1085) 48828125 1085 (share x lo hi) e11 share-le (lit≤ tt) (lit≤ {m = 2 ^ 1074 * (48828125 * 2 ^ 1085)} {n = 48828125 * 2 ^ 1085 * 2 ^ 1074} tt) (lit< tt) (lit< {m = 48828125 * 2 ^ 1085} {n = 2 ^ 2098} tt)
 
-  pub rank-le : nearestAway (mul binary64 (share x lo hi) e11) ≤ 10 ^ 11
+  pub rank-le : rankValue x lo hi ≤ 10 ^ 11
+  unfolding rankValue
   rank-le = away-le (mul binary64 (share x lo hi) e11) scaled-le
 
   pub scaled-not-negative : NotNegative (mul binary64 (share x lo hi) e11)
   scaled-not-negative = up-not-negative (48828125 * 2 ^ 1085) (mul binary64 (share x lo hi) e11) scaled-le (mul-up (2 ^ 1074) (48828125 * 2 ^ 1085) (share x lo hi) e11 share-le (lit≤ tt) share-up tt)
-
-  pub scaled-in : Within (2 ^ 1126) (mul binary64 (share x lo hi) e11)
-  scaled-in = within-more (48828125 * 2 ^ 1085) (2 ^ 1126) (mul binary64 (share x lo hi) e11) (lit≤ {m = 48828125 * 2 ^ 1085} {n = 2 ^ 1126} tt) scaled-le
 
 -- a larger x has a larger difference
 pub D-mono : (x y lo hi : Float) (p : Between x lo hi) (q : Between y lo hi) → T (le x y) → D x lo hi p ≤ D y lo hi q
