@@ -11,3 +11,5 @@ pub mod Boundary
 pub mod Link
 pub mod Feature
 pub mod Manifold
+pub mod Group
+pub mod Intake

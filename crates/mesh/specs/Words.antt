@@ -1,15 +1,11 @@
 -- Words and floats in lent slices. A slice is the list of its elements: a word is a number below 2^32, a float a value of
 -- `lib.Ieee`. Reads past the end give zero, so that every function of the crate is total. Assumes nothing.
-use mathlib.Core.Bool.{false}
-use mathlib.Core.List.{List}
-use Prim.Native.Nat.{ℕ}
-use lib.IntN.{pos}
-use lib.Ieee.{Float, fin}
-use lib.ListN.{getD, replicate}
-
--- the float +0.0
-abbrev pub zero64 : Float
-zero64 = fin false 0 (pos 0)
+use mathlib.Core.List.{List, [], _∷_}
+use Prim.Native.Nat.{ℕ, zero, suc}
+use lib.Ieee.{Float}
+use lib.ListN.{getD, drop, replicate}
+use Rattle.geometry.specs.declared.point.Point.{Point}
+use Rattle.geometry.specs.Float.{zero64}
 
 -- the word at i, 0 past the end
 abbrev pub wordAt : List ℕ → ℕ → ℕ
@@ -26,3 +22,16 @@ zeroWords n = replicate n 0
 -- n floats, all +0.0
 abbrev pub zeroFloats : ℕ → List Float
 zeroFloats n = replicate n zero64
+
+-- the point 0 0 0
+abbrev pub zeroPoint : Point
+zeroPoint = record { x = zero64; y = zero64; z = zero64 }
+
+-- the point of the vertex v, 0 0 0 past the last vertex
+abbrev pub pointAt : List Point → ℕ → Point
+pointAt ps v = getD ps v zeroPoint
+
+-- the first n points of a list of floats, three floats each
+unfoldable pub pointsOf : ℕ → List Float → List Point
+pointsOf zero s = []
+pointsOf (suc n) s = record { x = floatAt s 0; y = floatAt s 1; z = floatAt s 2 } ∷ pointsOf n (drop 3 s)

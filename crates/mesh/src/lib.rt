@@ -2,5 +2,6 @@
 // groups. Every public function is total, and its contract is an equation with a definition of
 // specs/.
 pub mod element;
+pub mod intake;
 pub mod rows;
 pub mod words;

@@ -5,7 +5,7 @@ use mathlib.Core.List.{_++_}
 use Prim.Native.Nat.{_-_, _≤_}
 use native.Mathlib.Omega.{arith}
 use lib.ListN.{length, replicate, drop, length-set}
-use Rattle.mesh.specs.Words.{zero64}
+use Rattle.geometry.specs.Float.{zero64}
 use Rattle.mesh.proofs.Laws.Parts.{fill-more, fill-done}
 use Rattle.mesh.proofs.words.clear_floats.Statement.{statement}
 use Rattle.mesh.proofs.words.clear_floats.Tie as tie

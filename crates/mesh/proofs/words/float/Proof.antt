@@ -3,7 +3,7 @@ use borrow.Author.Needs.{needs}
 use mathlib.Core.Path.{sym}
 use lib.ListN.{List·getD-eq-default}
 use lib.Ieee.{nan}
-use Rattle.mesh.specs.Words.{zero64}
+use Rattle.geometry.specs.Float.{zero64}
 use Rattle.mesh.proofs.Laws.Parts.{getD-any}
 use Rattle.mesh.proofs.words.float.Statement.{statement}
 use Rattle.mesh.proofs.words.float.Tie as tie
