@@ -1,0 +1,179 @@
+// Functions for programs in other languages to call, for comparison and measurement. Numbers pass as
+// themselves, an array as a pointer to its first number. A box is lo and hi per direction: x, y, z.
+use geometry::bounds::Bounds;
+use geometry::bounds::Cells;
+use geometry::bounds::Options;
+use geometry::field::Field;
+use geometry::point::Point;
+ghost use mathlib.Core.Path.{_≡_};
+ghost use Prim.Native.Nat.{_<_, _%_};
+ghost use lib.Dec.{eqb};
+ghost use Rattle.geometry.specs.Root.{sqrt};
+ghost use Rattle.geometry.specs.Point.{norm, determinant};
+ghost use Rattle.geometry.specs.Score.{squaredEdges, score};
+ghost use Rattle.geometry.specs.Bounds.{spacing, canonicalValue, cap};
+ghost use Rattle.geometry.specs.Rank.{rankValue};
+ghost use Rattle.geometry.specs.Field.{value, gradient};
+ghost use Rattle.export.specs.Arrays.{pointOf, boundsOf, optionsOf, fieldOf, along};
+
+#[no_mangle]
+pub extern "C" fn h_root(x: f64) -> f64
+    ensures { λ r. ⌜ r ≡ sqrt x ⌝ }
+{
+    geometry::root::root(x)
+}
+
+fn point(p: &[f64; 12], i: usize) -> Point
+    requires { ⌜ i < 10 ⌝ }
+    ensures { λ r. ⌜ r ≡ pointOf (now (p .entry)) i ⌝ }
+{
+    Point {
+        x: p[i],
+        y: p[i + 1],
+        z: p[i + 2],
+    }
+}
+
+#[no_mangle]
+pub extern "C" fn h_determinant(p: &[f64; 12]) -> f64
+    ensures { λ r. ⌜ r ≡ determinant (pointOf (now (p .entry)) 0) (pointOf (now (p .entry)) 3) (pointOf (now (p .entry)) 6) (pointOf (now (p .entry)) 9) ⌝ }
+{
+    geometry::point::determinant(point(p, 0), point(p, 3), point(p, 6), point(p, 9))
+}
+
+#[no_mangle]
+pub extern "C" fn h_squared_edges(p: &[f64; 12]) -> f64
+    ensures { λ r. ⌜ r ≡ squaredEdges (pointOf (now (p .entry)) 0) (pointOf (now (p .entry)) 3) (pointOf (now (p .entry)) 6) (pointOf (now (p .entry)) 9) ⌝ }
+{
+    geometry::score::squared_edges(point(p, 0), point(p, 3), point(p, 6), point(p, 9))
+}
+
+#[no_mangle]
+pub extern "C" fn h_score(p: &[f64; 12]) -> f64
+    ensures { λ r. ⌜ r ≡ score (pointOf (now (p .entry)) 0) (pointOf (now (p .entry)) 3) (pointOf (now (p .entry)) 6) (pointOf (now (p .entry)) 9) ⌝ }
+{
+    geometry::score::score(point(p, 0), point(p, 3), point(p, 6), point(p, 9))
+}
+
+#[no_mangle]
+pub extern "C" fn h_norm(p: &[f64; 3]) -> f64
+    ensures { λ r. ⌜ r ≡ norm (pointOf (now (p .entry)) 0) ⌝ }
+{
+    geometry::point::norm(Point {
+        x: p[0],
+        y: p[1],
+        z: p[2],
+    })
+}
+
+fn bounds(b: &[f64; 6]) -> Bounds
+    ensures { λ r. ⌜ r ≡ boundsOf (now (b .entry)) ⌝ }
+{
+    Bounds {
+        lo: Point {
+            x: b[0],
+            y: b[2],
+            z: b[4],
+        },
+        hi: Point {
+            x: b[1],
+            y: b[3],
+            z: b[5],
+        },
+    }
+}
+
+#[no_mangle]
+pub extern "C" fn h_spacing(b: &[f64; 6], x: u32, y: u32, z: u32) -> f64
+    ensures { λ r. ⌜ r ≡ spacing (optionsOf (now (b .entry)) x y z) ⌝ }
+{
+    let cells = Cells { x: x, y: y, z: z };
+    geometry::bounds::spacing(Options {
+        bounds: bounds(b),
+        cells: cells,
+        periodic: 0,
+        passes: 0,
+    })
+}
+
+#[no_mangle]
+pub extern "C" fn h_rank(value: f64, lo: f64, hi: f64, periodic: u32) -> u64
+    ensures { λ r. ⌜ r ≡ rankValue (canonicalValue value lo hi (eqb (periodic % 2) 1)) lo hi ⌝ }
+{
+    let v = geometry::bounds::canonical_value(value, lo, hi, periodic % 2 == 1);
+    geometry::bounds::rank_value(v, lo, hi)
+}
+
+#[no_mangle]
+pub extern "C" fn h_cap(b: &[f64; 6], p: &[f64; 3]) -> u64
+    ensures { λ r. ⌜ r ≡ cap (pointOf (now (p .entry)) 0) (boundsOf (now (b .entry))) ⌝ }
+{
+    geometry::bounds::cap(
+        Point {
+            x: p[0],
+            y: p[1],
+            z: p[2],
+        },
+        bounds(b),
+    )
+}
+
+// Kind 0 is a level, 1 a plane, and any other a ball.
+fn field(kind: u32, f: &[f64; 4]) -> Field
+    ensures { λ r. ⌜ r ≡ fieldOf kind (now (f .entry)) ⌝ }
+{
+    if kind == 0 {
+        return Field::Level(f[0]);
+    }
+    let p = Point {
+        x: f[0],
+        y: f[1],
+        z: f[2],
+    };
+    if kind == 1 {
+        return Field::Plane(p, f[3]);
+    }
+    Field::Ball(p, f[3])
+}
+
+#[no_mangle]
+pub extern "C" fn h_field_value(kind: u32, f: &[f64; 4], p: &[f64; 3]) -> f64
+    ensures { λ r. ⌜ r ≡ value (fieldOf kind (now (f .entry))) (pointOf (now (p .entry)) 0) ⌝ }
+{
+    geometry::field::value(
+        field(kind, f),
+        Point {
+            x: p[0],
+            y: p[1],
+            z: p[2],
+        },
+    )
+}
+
+// The part in direction 0, 1, or 2 from there on.
+fn along(g: Point, axis: u32) -> f64
+    ensures { λ r. ⌜ r ≡ along g axis ⌝ }
+{
+    if axis == 0 {
+        return g.x;
+    }
+    if axis == 1 {
+        return g.y;
+    }
+    g.z
+}
+
+#[no_mangle]
+pub extern "C" fn h_field_gradient(kind: u32, f: &[f64; 4], p: &[f64; 3], axis: u32) -> f64
+    ensures { λ r. ⌜ r ≡ along (gradient (fieldOf kind (now (f .entry))) (pointOf (now (p .entry)) 0)) axis ⌝ }
+{
+    let g = geometry::field::gradient(
+        field(kind, f),
+        Point {
+            x: p[0],
+            y: p[1],
+            z: p[2],
+        },
+    );
+    along(g, axis)
+}
