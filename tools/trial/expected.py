@@ -1,0 +1,147 @@
+#!/usr/bin/env python3
+"""What crates/trial must print, worked out from document 01 with Python's floats and fractions.
+
+Run in the repository's folder:  python3 tools/trial/expected.py > crates/trial/stdout
+The cases are the constants of crates/trial/src; nothing else of the crates is read.
+"""
+import math
+import re
+import struct
+from fractions import Fraction
+
+NAN = 0x7FF8000000000000
+
+
+def cases(module, name):
+    """The numbers of a constant of the trial program."""
+    text = open(f"crates/trial/src/{module}.rt").read()
+    body = re.search(rf"const {name}: \[u64; \d+\] = \[(.*?)\];", text, re.S).group(1)
+    body = re.sub(r"//.*", "", body)
+    return [int(word.replace("_", ""), 16) for word in re.findall(r"0x[0-9a-f_]+", body)]
+
+
+def rows(numbers, width):
+    return [numbers[i : i + width] for i in range(0, len(numbers), width)]
+
+
+def of(bits):
+    return struct.unpack("<d", struct.pack("<Q", bits))[0]
+
+
+def pattern(x):
+    return NAN if x != x else struct.unpack("<Q", struct.pack("<d", x))[0]
+
+
+def hexed(*floats):
+    return " ".join(f"{pattern(x):016x}" for x in floats)
+
+
+def root(x):
+    return math.nan if x != x or x < 0 else math.sqrt(x)
+
+
+def divided(x, y):
+    """IEEE 754 division."""
+    if x != x or y != y or (y == 0 and x == 0) or (math.isinf(x) and math.isinf(y)):
+        return math.nan
+    if y == 0:
+        return math.copysign(math.inf, x) * math.copysign(1.0, y)
+    return x / y
+
+
+def sub(a, b):
+    return [a[i] - b[i] for i in range(3)]
+
+
+def dot(a, b):
+    return a[0] * b[0] + a[1] * b[1] + a[2] * b[2]
+
+
+def cross(a, b):
+    return [a[1] * b[2] - a[2] * b[1], a[2] * b[0] - a[0] * b[2], a[0] * b[1] - a[1] * b[0]]
+
+
+def determinant(p):
+    return dot(sub(p[1], p[0]), cross(sub(p[2], p[0]), sub(p[3], p[0])))
+
+
+def squared_edges(p):
+    total = None
+    for i in range(4):
+        for j in range(i + 1, 4):
+            e = sub(p[j], p[i])
+            total = dot(e, e) if total is None else total + dot(e, e)
+    return total
+
+
+def score(p):
+    length = squared_edges(p)
+    divisor = length * root(length)
+    if divisor == 0:
+        return 0.0
+    v = determinant(p)
+    return divided(of(0x4034C8DC2E423980) * (-v if v < 0 else v), divisor)
+
+
+def nearest_away(q):
+    if q != q or q <= 0:
+        return 0
+    if math.isinf(q):
+        return 2**64 - 1
+    return min(math.floor(Fraction(q) + Fraction(1, 2)), 2**64 - 1)
+
+
+def rank(value, lo, hi, periodic):
+    x = lo if periodic and value == hi else value
+    return nearest_away(divided(x - lo, hi - lo) * 1e11)
+
+
+def cap(p, lo, hi):
+    bits = 0
+    for a in range(3):
+        if p[a] == lo[a]:
+            bits |= 1 << (32 + 2 * a)
+        elif p[a] == hi[a]:
+            bits |= 1 << (33 + 2 * a)
+    return bits
+
+
+def spacing(lo, hi, cells):
+    h = math.inf
+    for a in range(3):
+        size = divided(hi[a] - lo[a], float(cells[a]))
+        h = size if size < h else h
+    return h
+
+
+def field(kind, f, p):
+    if kind == 0:
+        return p[2] - f[0], [0.0, 0.0, 1.0]
+    if kind == 1:
+        return dot(f[:3], p) + f[3], f[:3]
+    d = sub(p, f[:3])
+    return dot(d, d) - f[3] * f[3], [2.0 * x for x in d]
+
+
+def order_bits(x):
+    return 2**64 - 1 if x != x else pattern(x) if x > 0 else 0
+
+
+for n in cases("roots", "ROOTS"):
+    print(f"root {n:016x} {hexed(root(of(n)))}")
+for i, row in enumerate(rows(cases("scores", "POINTS"), 12)):
+    p = [[of(n) for n in point] for point in rows(row, 3)]
+    s = score(p)
+    print(f"score {i} {hexed(determinant(p), squared_edges(p), s)} {int(s < 0.1)}")
+for value, lo, hi, periodic in rows(cases("ranks", "RANKS"), 4):
+    print(f"rank {value:016x} {lo:016x} {hi:016x} {periodic} {rank(of(value), of(lo), of(hi), periodic)}")
+for i, row in enumerate(rows(cases("boxes", "BOXES"), 12)):
+    lo, hi, p = ([of(n) for n in part] for part in rows(row[:9], 3))
+    bits = cap(p, lo, hi)
+    print(f"box {i} {hexed(spacing(lo, hi, row[9:]))} {bits:016x} {bits + 5:016x}")
+for i, row in enumerate(rows(cases("fields", "FIELDS"), 8)):
+    value, g = field(row[0], [of(n) for n in row[1:5]], [of(n) for n in row[5:]])
+    print(f"field {i} {row[0]} {hexed(value, *g, root(dot(g, g)))}")
+for n in cases("words", "WORDS"):
+    bits = pattern(of(n))
+    print(f"words {n:016x} {bits % 2**32} {bits >> 32} {order_bits(of(n)):016x}")
