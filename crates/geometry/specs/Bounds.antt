@@ -29,7 +29,7 @@ periodicIn bits axis = eqb (bits / 2 ^ axis % 2) 1
 abbrev pub canonicalValue : Float → Float → Float → Bool → Float
 canonicalValue value lo hi periodic = cond (periodic && eq value hi) lo value
 
--- the same in each direction
+-- "in a periodic direction hi counts as lo", for each of the three
 unfoldable pub canonical : Point → Options → Point
 canonical p o =
     let lo = o .bounds .lo in

@@ -13,10 +13,10 @@ orderBits x = cond (lt zero64 x) (toBits binary64 x) (cond (isNan x) (2 ^ 64 - 1
 abbrev pub fromWords : ℕ → ℕ → Float
 fromWords low high = ofBits binary64 (low + 2 ^ 32 * high)
 
--- its low word
+-- the low word of x's pattern
 abbrev pub lowWord : Float → ℕ
 lowWord x = toBits binary64 x % 2 ^ 32
 
--- its high word
+-- the high word of x's pattern
 abbrev pub highWord : Float → ℕ
 highWord x = toBits binary64 x / 2 ^ 32

@@ -2,3 +2,5 @@
 pub mod Away
 pub mod Share
 pub mod Monotone
+pub mod Outside
+pub mod Ranks

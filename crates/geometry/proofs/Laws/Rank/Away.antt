@@ -8,7 +8,7 @@ use lib.IntN.{ℤ, pos, negsuc}
 use lib.Dec.{T, ltb, leb, lit<, lit≤, lt→ltb, le→leb, leb→le}
 use lib.Pow.{pow-pos, pow-mono}
 use lib.Ieee.{Float, nan, inf, fin, binary64, up, down, round, sum, neg, add, sub, lt, fits, toUnsigned, ofInt, inFloat}
-use lib.Ieee.Fits.{up-pos, down-pos}
+use lib.Ieee.Fits.{down-pos}
 use lib.Ieee.Exact.{HasValue, round-exact}
 use lib.Ieee.Scale.{round-same}
 use borrow.Author.Tests.{ltb-true, ltb-false, le-ltb, le-leb, lt-leb}
@@ -255,12 +255,3 @@ away-le (fin false m e) w =
 
         one-more : (n : ℕ) → suc n ≡ n + 1
         one-more n = omega arith
-
--- ---- examples: 2.5 to 3, and 0.49999999999999994 to 0, where adding a half and cutting gives 1
-half-up : nearestAway (fin false 5 (negsuc 0)) ≡ 3
-unfolding nearestAway
-half-up = refl
-
-below-half : nearestAway (fin false 9007199254740991 (negsuc 53)) ≡ 0
-unfolding nearestAway
-below-half = refl

@@ -1,17 +1,16 @@
 -- The rank keeps the order: for lo ≤ x ≤ y ≤ hi the rank of x is at most that of y. Assumes nothing.
 use mathlib.Core.Path.{_≡_, refl, sym, ap, _∙_, subst}
-use mathlib.Core.Logic.{_⊎_, inl, inr}
+use mathlib.Core.Logic.{inl, inr}
 use Prim.Native.Nat.{ℕ, zero, suc, _+_, _-_, _*_, _/_, _%_, _^_, _≤_, _<_, zero-le, min}
-use native.Mathlib.Nat.{le-trans, le-of-eq, lt-of-le-of-lt, lt-irrefl, mul-le-mul-right, mul-le-mul-left, mul-assoc, mul-comm, mul-left-comm, mul-right-comm, mul-pos, zero-lt-suc, div-add-mod', mod-lt, not-le-of-lt, zero-mul}
+use native.Mathlib.Nat.{le-trans, le-of-eq, lt-of-le-of-lt, mul-le-mul-right, mul-pos, zero-lt-suc, div-add-mod', mod-lt, not-le-of-lt, zero-mul}
 use native.Mathlib.Omega.{arith}
 use mathlib.Core.Bool.{Bool, true, false, not, cond}
-use lib.IntN.{ℤ, pos}
-use lib.Dec.{T, leb, eqb, eqb·suc-zero, leb→le, nleb→lt, lit<, lit≤}
+use lib.IntN.{ℤ}
+use lib.Dec.{T, leb, eqb, eqb·suc-zero, leb→le, nleb→lt}
 use lib.Pow.{pow-pos}
 use lib.Arith.{digits-div}
-use lib.Ieee.{Float, nan, inf, fin, binary64, up, down, unlike, round, neg, sub, mul, div, le, fits}
+use lib.Ieee.{Float, nan, inf, fin, binary64, up, down, unlike, round, neg, sub, mul, div, le}
 use lib.Ieee.Fits.{up-pos, down-pos}
-use lib.Ieee.Exact.{HasValue}
 use lib.Ieee.Nearest.{div-mono}
 use lib.Ieee.Order.{transfer}
 use lib.Ieee.Positive.{num, den, value→cross}
@@ -19,12 +18,10 @@ use lib.Ieee.Scale.{grid, finite, round-val, round-under}
 use Rattle.geometry.specs.Units.{Within, NotNegative}
 use Rattle.geometry.proofs.Laws.Float.Grid.{grid-mono}
 use Rattle.geometry.proofs.Laws.Float.Sign.{round-neg}
-use Rattle.geometry.proofs.Laws.Float.Magnitude.{within-finite, within-neg}
-use Rattle.geometry.proofs.Laws.Float.Mirror.{neg-neg}
-use Rattle.geometry.proofs.Laws.Float.Spot.{spot, le-spot}
+use Rattle.geometry.proofs.Laws.Float.Magnitude.{within-finite}
 use Rattle.geometry.proofs.Laws.Float.Diff.{Rounded, AtLeast}
 use Rattle.geometry.specs.Rank.{nearestWhole, nearestAway, e11, share, rankValue}
-use Rattle.geometry.proofs.Laws.Rank.Share.{Between, D, E, top, bottom, top-in, bottom-least, G, G-pos, share-le, scaled-le, scaled-not-negative, D-mono}
+use Rattle.geometry.proofs.Laws.Rank.Share.{Between, D, E, top, top-in, bottom-least, G, G-pos, share-le, scaled-le, scaled-not-negative, D-mono}
 use Rattle.geometry.proofs.Laws.Rank.Away.{whole-zero}
 
 -- |x| ≤ |y|

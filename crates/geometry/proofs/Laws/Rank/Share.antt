@@ -1,14 +1,13 @@
 -- The share of x between lo and hi is at least 0 and at most 1, so that the rank is at most 1e11. Assumes nothing.
-use mathlib.Core.Path.{_≡_, refl, sym, ap, _∙_, subst}
-use Prim.Native.Nat.{ℕ, _+_, _-_, _*_, _/_, _^_, _≤_, _<_}
-use native.Mathlib.Nat.{le-trans, le-of-eq, le-of-lt, lt-of-le-of-lt, lt-of-lt-of-le, mul-le-mul-right, mul-comm, lt-irrefl}
+use mathlib.Core.Path.{subst}
+use Prim.Native.Nat.{ℕ, _-_, _*_, _^_, _≤_, _<_}
+use native.Mathlib.Nat.{le-of-eq, le-of-lt, mul-le-mul-right, mul-comm, lt-irrefl}
 use native.Mathlib.Omega.{arith}
-use mathlib.Core.Bool.{Bool, true, false}
 use lib.Dec.{T, lit<, lit≤}
 use lib.Pow.{pow-pos}
-use lib.Ieee.{Float, binary64, fits, sub, mul, div, le, lt, eq}
+use lib.Ieee.{Float, binary64, fits, sub, mul, le, lt}
 use lib.Ieee.Scale.{grid, finite, round-under}
-use mathlib.Core.Logic.{_⊎_, inl, inr}
+use mathlib.Core.Logic.{inl, inr}
 use Rattle.geometry.specs.Units.{Within, within, NotNegative}
 use Rattle.geometry.proofs.Laws.Float.Grid.{grid-mono}
 use Rattle.geometry.proofs.Laws.Float.Magnitude.{less-by, mul-within-value, within-finite}
@@ -18,6 +17,7 @@ use Rattle.geometry.proofs.Laws.Float.Diff.{Rounded, sub-spot, AtLeast,
 use Rattle.geometry.specs.Rank.{e11, share, rankValue}
 use Rattle.geometry.proofs.Laws.Rank.Away.{away-le}
 
+-- x lies in lo to hi, all three of 2 ^ 20 at most, and lo is below hi (document 01, 11 and 12 of the table)
 pub record Between (x lo hi : Float) : Type 0 where
   pub x-fits : T (fits binary64 x)
   pub lo-fits : T (fits binary64 lo)
@@ -29,11 +29,18 @@ pub record Between (x lo hi : Float) : Type 0 where
   pub below : T (le x hi)
   pub apart : T (lt lo hi)
 
+-- a difference that is finite rounds to less than overflow
+pub rounded-under : (v : Float) (D : ℕ) → Rounded v D → 0 < D → T (finite v) → grid binary64 D (2 ^ 1074) < 2 ^ 2098
+rounded-under v D r h f = elim r [
+  | inl p ↦ round-under binary64 D (2 ^ 1074) (subst (λ (z : Float). T (finite z)) p f)
+  | inr p ↦ absurd (lt-irrefl 0 (subst (λ (z : ℕ). 0 < z) (p .1) h))
+]
+
 module _ (x lo hi : Float) (h : Between x lo hi) where
-  pub D : ℕ
+  unfoldable pub D : ℕ
   D = spot x - spot lo
 
-  pub E : ℕ
+  unfoldable pub E : ℕ
   E = spot hi - spot lo
 
   lo-le : spot lo ≤ spot x
@@ -67,7 +74,7 @@ module _ (x lo hi : Float) (h : Between x lo hi) where
       diff : (a b c : ℕ) → b ≤ c → b - a ≤ c - a
       diff a b c h = omega arith
 
-  pub G : ℕ
+  unfoldable pub G : ℕ
   G = grid binary64 E (2 ^ 1074)
 
   below-in : within 21 (sub binary64 hi lo)
@@ -76,10 +83,7 @@ module _ (x lo hi : Float) (h : Between x lo hi) where
   -- hi - lo is finite, so the grid's number is below overflow
   G-lt : G < 2 ^ 2098
   unfolding G
-  G-lt = elim bottom [
-    | inl p ↦ round-under binary64 E (2 ^ 1074) (subst (λ (z : Float). T (finite z)) p (within-finite (2 ^ 1095) (sub binary64 hi lo) below-in))
-    | inr p ↦ absurd (lt-irrefl 0 (subst (λ (z : ℕ). 0 < z) (p .1) E-pos))
-  ]
+  G-lt = rounded-under (sub binary64 hi lo) E bottom E-pos (within-finite (2 ^ 1095) (sub binary64 hi lo) below-in)
 
   pub G-pos : 0 < G
   unfolding G

@@ -1,7 +1,7 @@
 -- Between values that are not negative `orderBits` compares as the values do: it grows with the units, and two values with the same bits are the same. Assumes nothing.
 use mathlib.Core.Path.{_≡_, refl, sym, ap, _∙_, subst}
 use mathlib.Core.Logic.{_⊎_, inl, inr}
-use Prim.Native.Nat.{ℕ, zero, suc, _+_, _-_, _*_, _/_, _%_, _^_, _≤_, _<_}
+use Prim.Native.Nat.{ℕ, zero, suc, _+_, _-_, _*_, _/_, _^_, _≤_, _<_}
 use native.Mathlib.Nat.{le-trans, le-of-eq, le-of-lt, lt-of-le-of-lt, not-le-of-lt, le-antisymm, eq-or-lt-of-le, le-div-iff-mul-le, zero-mul, zero-add}
 use native.Mathlib.Omega.{arith}
 use mathlib.Core.Bool.{Bool, true, false, cond, _&&_, _||_, Bool·beq, true≢false}
@@ -13,7 +13,6 @@ use lib.Ieee.Digits.{size-lt, size-le, size-reaches}
 use lib.Ieee.Fits.{down-pos, kept-lt}
 use lib.Ieee.Bits.{ofBits-toBits}
 use borrow.Author.Tests.{ltb-true, ltb-false, lt-ltb, le-ltb, eqb-true, eqb-false, eq-eqb, ne-eqb}
-use Rattle.geometry.specs.Float.{zero64}
 use Rattle.geometry.specs.Units.{unitsOf, NotNegative}
 use Rattle.geometry.specs.Word.{orderBits}
 use Rattle.geometry.proofs.Laws.Float.Units.{units-is, units-exact, lt-units, test}

@@ -1,11 +1,11 @@
 -- A value and its two words. Assumes nothing.
-use mathlib.Core.Path.{_≡_, refl, sym, ap, _∙_, subst}
+use mathlib.Core.Path.{_≡_, sym, ap, _∙_, subst}
 use Prim.Native.Nat.{ℕ, _+_, _*_, _/_, _%_, _^_, _<_}
 use native.Mathlib.Nat.{mod-add-div}
 use native.Mathlib.Omega.{arith}
 use mathlib.Core.Bool.{Bool, false, not}
 use lib.Dec.{T}
-use lib.Ieee.{Float, binary64, fits, isNan, toBits, ofBits, nanBits}
+use lib.Ieee.{Float, binary64, fits, toBits, ofBits, nanBits}
 use lib.Ieee.Bits.{ofBits-toBits, toBits-ofBits, toBits-lt, nanBits-is}
 use Rattle.geometry.specs.Word.{fromWords, lowWord, highWord}
 

@@ -24,7 +24,7 @@ canonical-value-requires-3 c κs = search needs
 
 returns : tie.Need-returns
 unfolding canonical
-returns c = cc
+returns c = rw (c .before .before .before .before .canonical-value .ensures, c .before .before .canonical-value2 .ensures, c .canonical-value3 .ensures, c .before .before .before .before .before .periodic-in .ensures, c .before .before .before .periodic-in2 .ensures, c .before .periodic-in3 .ensures)
 
 pub canonical-spec : {M : Type 1} → statement M
 canonical-spec =

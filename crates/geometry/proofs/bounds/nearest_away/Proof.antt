@@ -1,24 +1,33 @@
 -- `bounds::nearest_away` meets its contract, by the cases of `Laws.Rank.Away`. Assumes nothing.
-use mathlib.Core.Path.{_≡_, sym, subst}
+use mathlib.Core.Path.{sym, subst}
 use Prim.Native.Nat.{ℕ, _<_, _^_}
 use native.Mathlib.Omega.{arith}
 use lib.Dec.{T}
-use lib.Ieee.{ofBits}
+use lib.Ieee.{binary64, fits, ofBits}
 use Rattle.geometry.proofs.Laws.Rank.Away.{above-minus-one, below-top, cut-lt, in-float, down-is, up-is, whole-is, top-is, not-above}
 use Rattle.geometry.proofs.bounds.nearest_away.Statement.{statement}
 use Rattle.geometry.proofs.bounds.nearest_away.Tie as tie
 
+held : (c : tie.Start) → T (fits binary64 (c .args .q))
+held c = subst T (sym (c .good .0 .1)) tt
+
 truncating-f64-to-u64-requires : tie.Need-truncating-f64-to-u64-requires
 unfolding ofBits
-truncating-f64-to-u64-requires c κs = (above-minus-one (c .before .before .args .q) (c .before .if1 .taken), below-top (c .before .before .args .q) (c .before .if1 .taken) (c .if2 .taken))
+truncating-f64-to-u64-requires c κs =
+    let q = c .before .before .args .q in
+    (above-minus-one q (c .before .if1 .taken), below-top q (c .before .if1 .taken) (c .if2 .taken))
 
 int-to-float-rest : tie.Need-int-to-float-rest
 unfolding ofBits
-int-to-float-rest c = in-float (c .before .truncating-f64-to-u64 .result) (subst (λ (n : ℕ). n < 2 ^ 52) (sym (c .before .truncating-f64-to-u64 .ensures)) (cut-lt (c .before .before .before .before .args .q) (c .before .before .before .if1 .taken) (c .before .before .if2 .taken)))
+int-to-float-rest c =
+    let n = c .before .truncating-f64-to-u64 in
+    in-float (n .result) (subst (λ (m : ℕ). m < 2 ^ 52) (sym (n .ensures)) (cut-lt (c .before .before .before .before .args .q) (c .before .before .before .if1 .taken) (c .before .before .if2 .taken)))
 
 returns : tie.Need-returns
 unfolding ofBits
-returns c = down-is (c .before .before .before .before .before .args .q) (c .before .before .truncating-f64-to-u64 .result) (subst T (sym (c .before .before .before .before .before .good .0 .1)) tt) (c .before .before .before .before .if1 .taken) (c .before .before .before .if2 .taken) (c .before .before .truncating-f64-to-u64 .ensures) (c .if3 .taken)
+returns c =
+    let n = c .before .before .truncating-f64-to-u64 in
+    down-is (c .before .before .before .before .before .args .q) (n .result) (held (c .before .before .before .before .before)) (c .before .before .before .before .if1 .taken) (c .before .before .before .if2 .taken) (n .ensures) (c .if3 .taken)
 
 add-result : tie.Need-add-result
 unfolding ofBits
@@ -26,7 +35,9 @@ add-result c = omega (arith, c .before .before .truncating-f64-to-u64 .ensures, 
 
 returns-2 : tie.Need-returns-2
 unfolding ofBits
-returns-2 c = up-is (c .before .before .before .before .before .args .q) (c .before .before .truncating-f64-to-u64 .result) (subst T (sym (c .before .before .before .before .before .good .0 .1)) tt) (c .before .before .before .before .if1 .taken) (c .before .before .before .if2 .taken) (c .before .before .truncating-f64-to-u64 .ensures) (c .if3 .left)
+returns-2 c =
+    let n = c .before .before .truncating-f64-to-u64 in
+    up-is (c .before .before .before .before .before .args .q) (n .result) (held (c .before .before .before .before .before)) (c .before .before .before .before .if1 .taken) (c .before .before .before .if2 .taken) (n .ensures) (c .if3 .left)
 
 truncating-f64-to-u64-requires-2 : tie.Need-truncating-f64-to-u64-requires-2
 unfolding ofBits
@@ -34,7 +45,9 @@ truncating-f64-to-u64-requires-2 c κs = (above-minus-one (c .before .before .be
 
 returns-3 : tie.Need-returns-3
 unfolding ofBits
-returns-3 c = whole-is (c .before .before .before .before .args .q) (c .truncating-f64-to-u642 .result) (subst T (sym (c .before .before .before .before .good .0 .1)) tt) (c .before .before .if2 .left) (c .before .if4 .taken) (c .truncating-f64-to-u642 .ensures)
+returns-3 c =
+    let n = c .truncating-f64-to-u642 in
+    whole-is (c .before .before .before .before .args .q) (n .result) (held (c .before .before .before .before)) (c .before .before .if2 .left) (c .before .if4 .taken) (n .ensures)
 
 returns-4 : tie.Need-returns-4
 unfolding ofBits

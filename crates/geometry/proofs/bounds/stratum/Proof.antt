@@ -14,7 +14,7 @@ add-result c = omega (arith, cap-lt (c .before .args .p) (c .before .args .b))
 
 returns : tie.Need-returns
 unfolding stratum
-returns c = cc
+returns c = rw (c .cap .ensures)
 
 pub stratum-spec : {M : Type 1} → statement M
 stratum-spec = tie.close (tie.spec cap-requires add-result returns)
