@@ -1,9 +1,11 @@
-// The square root of an `f64`, correctly rounded, for every `f64`: the program works it out from the
-// bits. `sqrt` of `specs/Root.antt` is IEEE 754's squareRoot at binary64.
+// The square root of an `f64`, correctly rounded, for every `f64`: `sqrt` of specs/Root.antt, which is
+// IEEE 754's squareRoot. For a number above 0 a guess by floats is tested exactly by whole numbers, and
+// where it fails, about once in 500, the digits are worked out one by one.
+use std::num::wrapping_sub_u64;
 ghost use mathlib.Core.Path.{_≡_};
 ghost use Prim.Native.Nat.{_+_, _*_, _^_, _≤_, _<_};
 ghost use mathlib.Core.Logic.{_⊎_};
-ghost use Rattle.geometry.specs.Root.{sqrt, rootOf};
+ghost use Rattle.geometry.specs.Root.{number, rootOf, sqrt};
 ghost use Rattle.geometry.specs.Whole.{NearRoot, Halved};
 
 // The whole root of y * 2 ^ 53, cut: 54 binary digits, one a turn. s is twice the root so far, and
@@ -28,83 +30,81 @@ fn root_digits(y: u64) -> u64
     s / 2
 }
 
-// A guess at the root of m * 2 ^ (52 + p), to 53 digits, by three of Newton's steps for 1 / root and one
-// for the root. The contract says nothing of how good it is: `settled` tells.
-fn guess(m: u64, p: u64) -> u64
-    requires { ⌜ (m < 2 ^ 53) × (p < 2) ⌝ }
-    ensures { λ r. ⌜ (2 ^ 52 ≤ r) × (r < 2 ^ 53) ⌝ }
+// A guess at 1 / root x, for the x with these bits. Halving the bits halves the exponent, so that y is
+// within 4 % of it; the sum is a polynomial near to 1 / root p, for p from 0.93 to 1.07, within 2 ^ -34
+// and from below. The contract says nothing of it: `settled` tells.
+fn inverse(bits: u64) -> f64
+    requires { ⌜ bits < 2047 * 2 ^ 52 ⌝ }
 {
-    // the bits of m * 2 ^ p as an `f64`
-    let w = m + 0x4320_0000_0000_0000 + p * 0x10_0000_0000_0000;
-    let f = f64::from_bits(w);
-    let h = 0.5 * f;
-    let z0 = f64::from_bits(0x5fe6_eb50_c7b5_37a9 - w / 2);
-    let z1 = z0 * (1.5 - h * z0 * z0);
-    let z2 = z1 * (1.5 - h * z1 * z1);
-    let z3 = z2 * (1.5 - h * z2 * z2);
-    let t = f * z3;
-    let r = t + 0.5 * z3 * (f - t * t);
-    if r > 0.0 {
-        f64::to_bits(r) % 0x10_0000_0000_0000 + 0x10_0000_0000_0000
-    } else {
-        0x10_0000_0000_0000
-    }
+    let x = f64::from_bits(bits);
+    let y = f64::from_bits(0x5fe6_eb50_c7b5_37a9 - bits / 2);
+    let p = x * y * y;
+    let p2 = p * p;
+    let low = (2.935009859245964 - 5.877883198310632 * p)
+        + (8.825195001680699 - 8.409649210002044 * p) * p2;
+    let high = (4.906461721076635 - 1.6053989806049038 * p) + 0.22626480689144277 * p2;
+    y * (low + high * (p2 * p2))
 }
 
-// q, q - 1 or q + 1, whichever is nearest to the root of y * 2 ^ 51, and 0 if none is. The square of q is
-// a * 2 ^ 51 + b, and v is y * 2 ^ 51 + q - q * q, with 2 ^ 57 added.
-fn settled(y: u64, q: u64) -> u64
-    requires { ⌜ (y < 2 ^ 55) × (2 ^ 52 ≤ q) × (q < 2 ^ 53) ⌝ }
+// The whole number nearest to the root of y * 2 ^ 51, by a guess and an exact test, and 0 if the guess
+// is not it. z is a guess at the inverse of the root, with 32 digits. The root's 32 leading digits are t,
+// which leave `rest` of y, and those below are d.
+fn settled(y: u64, z: u64) -> u64
+    requires { ⌜ (2 ^ 53 ≤ y) × (y < 2 ^ 55) × (z < 2 ^ 32) ⌝ }
     ensures { λ r. ⌜ (r ≡ 0) ⊎ NearRoot y r ⌝ }
 {
-    let hi = q / 0x800_0000;
-    let lo = q % 0x800_0000;
-    let mid = hi * lo;
-    let a = 8 * (hi * hi) + mid / 0x80_0000;
-    let b = mid % 0x80_0000 * 0x1000_0000 + lo * lo;
-    if a > y + 32 {
+    let n = y * 512;
+    let t = n / 0x1_0000_0000 * z / 0x8000_0000 % 0x1_0000_0000;
+    let rest = wrapping_sub_u64(n, t * t);
+    if rest >= 0x8_0000_0000 {
         return 0;
     }
-    let d = y + 64 - a;
-    if d >= 128 {
+    // rounded, with a little more than a half for what z is below
+    let d = (rest / 16 * z + 0x40_a000_0000) / 0x80_0000_0000;
+    // what d leaves of `rest`, with 2 ^ 34 added
+    let left = wrapping_sub_u64(rest * 0x10_0000 + 0x4_0000_0000, t * d);
+    if left >= 0x8_0000_0000 {
         return 0;
     }
-    let mut v = d * 0x8_0000_0000_0000 + q - b;
-    let mut g = q;
-    if v <= 0x200_0000_0000_0000 {
-        v = v + 2 * g - 2;
-        g = g - 1;
-    } else if v > 0x200_0000_0000_0000 + 2 * g {
-        v = v - 2 * g;
-        g = g + 1;
-    }
-    if v > 0x200_0000_0000_0000 {
-        if v <= 0x200_0000_0000_0000 + 2 * g {
-            return g;
+    // y * 2 ^ 51 - q * q is v - w
+    let q = t * 0x20_0000 + d;
+    let v = left * 0x40_0000;
+    let w = d * d + 0x100_0000_0000_0000;
+    if v + q > w {
+        if v <= w + q {
+            return q;
         }
     }
     0
 }
 
-// The root of m * 2 ^ (52 + p) to the nearest, by the guess if it settles and digit by digit if not.
-fn near_root(m: u64, p: u64) -> u64
-    requires { ⌜ (2 ^ 52 ≤ m) × (m < 2 ^ 53) × (p < 2) ⌝ }
+// The root of m * 2 ^ (52 + p) to the nearest, by a guess if it settles and digit by digit if not. `bits`
+// leads only to the guess: a positive number with the digits of m and a field that is odd where p is 0.
+fn near_root(m: u64, p: u64, bits: u64) -> u64
+    requires { ⌜ (2 ^ 52 ≤ m) × (m < 2 ^ 53) × (p < 2) × (bits < 2047 * 2 ^ 52) ⌝ }
     ensures { λ r. ⌜ Halved (m * 2 ^ (1 + p)) r ⌝ }
 {
     let y = m << (1 + p);
-    let q = settled(y, guess(m, p));
-    if q > 0 { q } else { (root_digits(y) + 1) / 2 }
+    let z = inverse(bits);
+    if z > 0.0 {
+        let q = settled(y, f64::to_bits(z) / 0x20_0000 % 0x8000_0000 + 0x8000_0000);
+        if q > 0 {
+            return q;
+        }
+    }
+    (root_digits(y) + 1) / 2
 }
 
-// The root of m * 2 ^ a / 2 ^ 2148, rounded.
-fn root_of_parts(m: u64, a: u64) -> f64
-    requires { ⌜ (2 ^ 52 ≤ m) × (m < 2 ^ 53) × (1022 ≤ a) × (a < 3120) ⌝ }
-    ensures { λ r. ⌜ r ≡ rootOf (m * 2 ^ a) ⌝ }
+// The root of m * 2 ^ a / 2 ^ 2148, rounded. `bits` leads only to a guess, as in `near_root`.
+fn root_of_parts(m: u64, a: u64, bits: u64) -> f64
+    requires { ⌜ (2 ^ 52 ≤ m) × (m < 2 ^ 53) × (1022 ≤ a) × (a < 3120) × (bits < 2047 * 2 ^ 52) ⌝ }
+    ensures { λ r. ⌜ r ≡ rootOf (number (m * 2 ^ a)) ⌝ }
 {
-    let q = near_root(m, a % 2);
+    let q = near_root(m, a % 2, bits);
     f64::from_bits((a - 52) / 2 * 0x10_0000_0000_0000 + q)
 }
 
+// IEEE 754's squareRoot.
 pub fn root(x: f64) -> f64
     ensures { λ r. ⌜ r ≡ sqrt x ⌝ }
 {
@@ -116,11 +116,13 @@ pub fn root(x: f64) -> f64
             return x;
         }
         if field > 0 {
-            return root_of_parts(digits + 0x10_0000_0000_0000, field + 1073);
+            return root_of_parts(digits + 0x10_0000_0000_0000, field + 1073, bits);
         }
         // subnormal
         let shift = (u64::leading_zeros(digits) as u64) - 11;
-        return root_of_parts(digits << shift, 1074 - shift);
+        let m = digits << shift;
+        let a = 1074 - shift;
+        return root_of_parts(m, a, m + a % 2 * 0x10_0000_0000_0000);
     }
     if x == 0.0 {
         return x;

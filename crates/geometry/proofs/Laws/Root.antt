@@ -1,6 +1,8 @@
--- The arithmetic behind the square root.
-pub mod Digits
+-- The laws of `sqrt`, by its three parts, and the arithmetic behind the functions of src/root.rt.
+pub mod Special
 pub mod Whole
+pub mod Rounding
+pub mod Digits
 pub mod Nearest
 pub mod Pattern
 pub mod Parts

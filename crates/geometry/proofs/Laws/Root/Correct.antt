@@ -1,22 +1,22 @@
 -- `sqrt` is right: for a positive finite x, its value is Q * 2 ^ k units of 2 ^ -1074 with 2 ^ 52 ≤ Q ≤ 2 ^ 53, and the exact root of x lies between (Q - 1/2) * 2 ^ k and (Q + 1/2) * 2 ^ k units, said with both sides squared.
 -- No other value of 53 digits is as near. Nothing of the program's is used. Assumes nothing.
-use mathlib.Core.Path.{_≡_, refl, sym, ap, _∙_, subst}
+use mathlib.Core.Path.{_≡_, sym, ap, _∙_, subst}
 use mathlib.Core.Logic.{_⊎_, inl, inr}
-use Prim.Native.Nat.{ℕ, zero, suc, _+_, _-_, _*_, _/_, _%_, _^_, _≤_, _<_, zero-le}
-use native.Mathlib.Nat.{le-trans, le-of-eq, le-of-lt, lt-of-lt-of-le, lt-of-le-of-lt, mul-le-mul, mul-le-mul-right, mul-lt-mul-of-pos-right, mul-assoc, mul-comm, mul-right-comm, mul-pos, mul-mul-mul-comm, pow-succ', zero-lt-suc, eq-or-lt-of-le, mul-one}
+use Prim.Native.Nat.{ℕ, suc, _+_, _-_, _*_, _/_, _%_, _^_, _≤_, _<_, zero-le}
+use native.Mathlib.Nat.{le-trans, le-of-eq, le-of-lt, lt-of-lt-of-le, mul-le-mul, mul-le-mul-right, mul-lt-mul-of-pos-right, mul-assoc, pow-succ', eq-or-lt-of-le, mul-one}
 use native.Mathlib.Omega.{arith}
-use mathlib.Core.Bool.{Bool, true, false, not, true≢false}
-use lib.IntN.{pos}
-use lib.Dec.{T, lit<, lit≤}
+use mathlib.Core.Bool.{true, false}
+use lib.Dec.{T, lit≤}
 use lib.Pow.{pow-add, pow-pos, pow-mono, shl-lt}
 use lib.Count.{leadingZeros}
-use lib.Ieee.{Float, nan, inf, fin, binary64, lt, fits, toBits}
+use lib.Ieee.{Float, inf, binary64, lt, fits, toBits}
 use lib.Ieee.Exact.{HasValue}
-use Rattle.geometry.specs.Root.{isqrt, rootOf, sqrt}
+use Rattle.geometry.specs.Float.{zero64}
+use Rattle.geometry.specs.Root.{number, isqrt, rootOf, sqrt}
 use Rattle.geometry.specs.Whole.{IsRoot}
 use Rattle.geometry.proofs.Laws.Root.Whole.{isqrt-is}
-use Rattle.geometry.proofs.Laws.Root.Parts.{root-value, whole, aligned, root-low, root-high}
-use Rattle.geometry.proofs.Laws.Root.Value.{nought, field, digits, bits-small, normal, subnormal, low-digits, shifted, is-infinite, normal-value, low-size}
+use Rattle.geometry.proofs.Laws.Root.Parts.{root-value, whole, aligned, root-low, root-high, half-low, half-high, bit-of, split-of, few-of, top-of, even-of}
+use Rattle.geometry.proofs.Laws.Root.Value.{field, digits, bits-small, normal, subnormal, low-digits, shifted, is-infinite, normal-value, low-size}
 
 -- v has the value Q * 2 ^ k units, and the root of n / 2 ^ 2148 is half a unit of the last place away at most
 pub record Nearest (n : ℕ) (v : Float) : Type 0 where
@@ -50,29 +50,23 @@ over M s P h =
     four M P = omega arith
 
 -- ---- for m * 2 ^ a, with an m of 53 digits
-half-low : (s : ℕ) → 2 ^ 53 ≤ s → 2 ^ 52 ≤ (s + 1) / 2
-half-low s h = omega arith
-
-half-high : (s : ℕ) → s < 2 ^ 54 → (s + 1) / 2 ≤ 2 ^ 53
-half-high s h = omega arith
-
-pub of-parts : (m a : ℕ) → 2 ^ 52 ≤ m → m < 2 ^ 53 → 1022 ≤ a → a < 3120 → Nearest (m * 2 ^ a) (rootOf (m * 2 ^ a))
+pub of-parts : (m a : ℕ) → 2 ^ 52 ≤ m → m < 2 ^ 53 → 1022 ≤ a → a < 3120 → Nearest (m * 2 ^ a) (rootOf (number (m * 2 ^ a)))
 of-parts m a lo hi al ah =
     let j = (a - 54) / 2 in
     let P = 2 ^ j in
     let y = m * 2 ^ (1 + a % 2) in
     let M = y * 2 ^ 53 in
-    let w = aligned m (a % 2) (bit a) lo hi in
+    let w = aligned m (a % 2) (bit-of a) lo hi in
     let M-lt : M < 4 ^ 54 = lt-of-lt-of-le (mul-lt-mul-of-pos-right (w .1) (pow-pos 53)) (lit≤ {m = 2 ^ 55 * 2 ^ 53} {n = 4 ^ 54} tt) in
     let s = isqrt 54 M in
     let h : IsRoot M s = isqrt-is 54 M M-lt in
     let s-lo = root-low y s (w .0) (h .1) in
     let s-hi = root-high y s (w .1) (h .0) in
-    let e : m * 2 ^ a ≡ M * (P * P) = whole m a j (sums a al) in
-    let n-lt : M * (P * P) < 4 ^ 1586 = subst (λ (x : ℕ). x < 4 ^ 1586) e (lt-of-lt-of-le (shl-lt 53 a hi) (le-trans (pow-mono (top a ah)) (lit≤ {m = 2 ^ 3172} {n = 4 ^ 1586} tt))) in
-    let v = root-value M (y * 2 ^ 52) s j (even y) h s-lo s-hi (few a ah) n-lt in
+    let e : m * 2 ^ a ≡ M * (P * P) = whole m a j (split-of a al) in
+    let n-lt : M * (P * P) < 4 ^ 1586 = subst (λ (x : ℕ). x < 4 ^ 1586) e (lt-of-lt-of-le (shl-lt 53 a hi) (le-trans (pow-mono (top-of a ah)) (lit≤ {m = 2 ^ 3172} {n = 4 ^ 1586} tt))) in
+    let v = root-value M (y * 2 ^ 52) s j (even-of y) h s-lo s-hi (few-of a ah) n-lt in
     let q : 2 ^ suc j ≡ 2 * P = pow-succ' 2 j in
-    subst (λ (n : ℕ). Nearest n (rootOf n)) (sym e)
+    subst (λ (n : ℕ). Nearest n (rootOf (number n))) (sym e)
     (record {
       Q = (s + 1) / 2;
       k = suc j;
@@ -82,21 +76,6 @@ of-parts m a lo hi al ah =
       above = subst (λ (z : ℕ). (2 * ((s + 1) / 2) - 1) * (2 * ((s + 1) / 2) - 1) * (z * z) ≤ 4 * (M * (P * P))) (sym q) (under M s P (h .0));
       below = subst (λ (z : ℕ). 4 * (M * (P * P)) ≤ (2 * ((s + 1) / 2) + 1) * (2 * ((s + 1) / 2) + 1) * (z * z)) (sym q) (over M s P (h .1));
     })
-  where
-    bit : (a : ℕ) → a % 2 < 2
-    bit a = omega arith
-
-    sums : (a : ℕ) → 1022 ≤ a → a ≡ 1 + a % 2 + 53 + ((a - 54) / 2 + (a - 54) / 2)
-    sums a h = omega arith
-
-    even : (y : ℕ) → y * 2 ^ 53 ≡ 2 * (y * 2 ^ 52)
-    even y = omega arith
-
-    few : (a : ℕ) → a < 3120 → (a - 54) / 2 < 1600
-    few a h = omega arith
-
-    top : (a : ℕ) → a < 3120 → 53 + a ≤ 3172
-    top a h = omega arith
 
 -- ---- for every positive finite x: A is x in units of 2 ^ -1074
 pub record Correct (x : Float) : Type 0 where
@@ -104,7 +83,7 @@ pub record Correct (x : Float) : Type 0 where
   pub size : HasValue x false A (2 ^ 1074)
   pub nearest : Nearest (A * 2 ^ 1074) (sqrt x)
 
-pub sqrt-correct : (x : Float) → T (fits binary64 x) → lt nought x ≡ true → (x ≡ inf false → ⊥) → Correct x
+pub sqrt-correct : (x : Float) → T (fits binary64 x) → lt zero64 x ≡ true → (x ≡ inf false → ⊥) → Correct x
 sqrt-correct x f h fin-x = go (eq-or-lt-of-le (zero-le {n = field x}))
   where
     w : ℕ

@@ -1,7 +1,7 @@
 -- One digit of a root at a time. X is the number whose root is sought, q the root's digits so far, b twice the weight of the next digit,
 -- and `rest` what X leaves, in units of b / 2. Assumes nothing.
-use mathlib.Core.Path.{_≡_, refl, sym, ap, _∙_, subst}
-use Prim.Native.Nat.{ℕ, zero, suc, _+_, _-_, _*_, _/_, _%_, _^_, _≤_, _<_}
+use mathlib.Core.Path.{_≡_, refl, sym, ap, _∙_}
+use Prim.Native.Nat.{ℕ, zero, suc, _+_, _-_, _*_, _/_, _^_, _≤_, _<_}
 use native.Mathlib.Nat.{pow-succ'}
 use native.Mathlib.Omega.{arith}
 use lib.Pow.{pow-pos}
@@ -43,8 +43,8 @@ back : (a b : ℕ) → b ≤ a → a ≡ a - b + b
 back a b h = omega arith
 
 -- the digit is 1
-pub one : (X rest s b : ℕ) → Step X rest s b → 1 < b → s + b / 2 ≤ rest → Step X ((rest - (s + b / 2)) * 2) (s + b / 2 + b / 2) (b / 2)
-one X rest s b k h t =
+pub one-digit : (X rest s b : ℕ) → Step X rest s b → 1 < b → s + b / 2 ≤ rest → Step X ((rest - (s + b / 2)) * 2) (s + b / 2 + b / 2) (b / 2)
+one-digit X rest s b k h t =
     let v = halved b (k .i) (k .power) h in
     let r = b / 2 in
     let q = k .q in
@@ -64,8 +64,8 @@ one X rest s b k h t =
     within q b r e h = omega arith
 
 -- the digit is 0
-pub nought : (X rest s b : ℕ) → Step X rest s b → 1 < b → rest < s + b / 2 → Step X (rest * 2) s (b / 2)
-nought X rest s b k h t =
+pub zero-digit : (X rest s b : ℕ) → Step X rest s b → 1 < b → rest < s + b / 2 → Step X (rest * 2) s (b / 2)
+zero-digit X rest s b k h t =
     let v = halved b (k .i) (k .power) h in
     let r = b / 2 in
     let q = k .q in

@@ -1,67 +1,33 @@
--- The square of a guess in two parts, the step up or down from it, and what the test then says. Assumes nothing.
-use mathlib.Core.Path.{_≡_, refl, sym, ap, _∙_, subst}
-use mathlib.Core.Logic.{_⊎_, inl, inr}
+-- The exact test of a guess t * 2 ^ 21 + d at the root of y * 2 ^ 51: what t and d leave, in words of 64 bits, and what the two comparisons
+-- then say. No law here is about how good the guess is. Assumes nothing.
+use mathlib.Core.Path.{_≡_, refl, sym, _∙_, subst}
 use Prim.Native.Nat.{ℕ, zero, suc, _+_, _-_, _*_, _/_, _%_, _^_, _≤_, _<_}
-use native.Mathlib.Nat.{lt-of-not-le, le-of-lt, mul-le-mul}
+use native.Mathlib.Nat.{lt-of-not-le, lt-of-le-of-lt, le-of-lt, mul-le-mul-left, mul-lt-mul-of-pos-right}
 use native.Mathlib.Decide.{decLe}
 use native.Mathlib.Omega.{arith}
+use lib.Pow.{pow-add, pow-pos}
 use Rattle.geometry.specs.Whole.{IsRoot, NearRoot, Halved}
 
--- ---- q * q is a * 2 ^ 51 + b
-parts : (h l k : ℕ) → k ≡ h * l → (h * 2 ^ 27 + l) * (h * 2 ^ 27 + l) ≡ (8 * (h * h) + k / 2 ^ 23) * 2 ^ 51 + (k % 2 ^ 23 * 2 ^ 28 + l * l)
-parts h l k e = omega arith
+-- ---- products of words that do not overflow
+pub product : {a b : ℕ} (j k : ℕ) → a < 2 ^ j → b < 2 ^ k → a * b < 2 ^ (j + k)
+product {a} {b} j k h l = subst (λ (z : ℕ). a * b < z) (sym (pow-add 2 j k)) (lt-of-le-of-lt (mul-le-mul-left a (le-of-lt l)) (mul-lt-mul-of-pos-right h (pow-pos k)))
 
-pub square : (q : ℕ) → q * q ≡ (8 * (q / 2 ^ 27 * (q / 2 ^ 27)) + q / 2 ^ 27 * (q % 2 ^ 27) / 2 ^ 23) * 2 ^ 51 + (q / 2 ^ 27 * (q % 2 ^ 27) % 2 ^ 23 * 2 ^ 28 + q % 2 ^ 27 * (q % 2 ^ 27))
-square q = ap (λ (z : ℕ). z * z) (both q) ∙ parts (q / 2 ^ 27) (q % 2 ^ 27) (q / 2 ^ 27 * (q % 2 ^ 27)) refl
-  where
-    both : (q : ℕ) → q ≡ q / 2 ^ 27 * 2 ^ 27 + q % 2 ^ 27
-    both q = omega arith
+pub low-word : (n : ℕ) → n % 2 ^ 32 < 2 ^ 32
+low-word n = omega arith
 
--- ---- the products' sizes
-pub record Sizes (q : ℕ) : Type 0 where
-  pub mid : q / 2 ^ 27 * (q % 2 ^ 27) ≤ 2 ^ 53
-  pub high : q / 2 ^ 27 * (q / 2 ^ 27) ≤ 2 ^ 52
-  pub low : q % 2 ^ 27 * (q % 2 ^ 27) ≤ 2 ^ 54
+-- ---- differences that do not wrap
 
-pub sizes : (q : ℕ) → q < 2 ^ 53 → Sizes q
-sizes q h = record { mid = mul-le-mul (hi q h) (lo q); high = mul-le-mul (hi q h) (hi q h); low = mul-le-mul (lo q) (lo q) }
-  where
-    hi : (q : ℕ) → q < 2 ^ 53 → q / 2 ^ 27 ≤ 2 ^ 26
-    hi q h = omega arith
+-- what t * t leaves of n = y * 512
+pub left-by-head : (y rest square : ℕ) → 2 ^ 53 ≤ y → rest < 2 ^ 35 → square < 2 ^ 64 → (rest + square) % 2 ^ 64 ≡ y * 512 → rest + square ≡ y * 512
+left-by-head y rest square h l k e = omega arith
 
-    lo : (q : ℕ) → q % 2 ^ 27 ≤ 2 ^ 27
-    lo q = omega arith
+-- what t * d leaves of that, 2 ^ 34 added
+pub left-by-tail : (rest left cross : ℕ) → rest < 2 ^ 35 → left < 2 ^ 35 → cross < 2 ^ 63 → (left + cross) % 2 ^ 64 ≡ rest * 2 ^ 20 + 2 ^ 34 → left + cross ≡ rest * 2 ^ 20 + 2 ^ 34
+left-by-tail rest left cross h l k e = omega arith
 
--- ---- v is y * 2 ^ 51 + g - g * g, with 2 ^ 57 added
-pub record Tried (y v g : ℕ) : Type 0 where
-  pub left : v + g * g ≡ y * 2 ^ 51 + g + 2 ^ 57
-  pub small : g ≤ 2 ^ 53
-
-pub first : (y q a b : ℕ) → q < 2 ^ 53 → q * q ≡ a * 2 ^ 51 + b → a ≤ y + 64 → b ≤ (y + 64 - a) * 2 ^ 51 + q → Tried y ((y + 64 - a) * 2 ^ 51 + q - b) q
-first y q a b h s l k = record { left = go (q * q) s; small = omega arith }
-  where
-    go : (qq : ℕ) → qq ≡ a * 2 ^ 51 + b → (y + 64 - a) * 2 ^ 51 + q - b + qq ≡ y * 2 ^ 51 + q + 2 ^ 57
-    go qq s = omega arith
-
-pub down : (y v g : ℕ) → Tried y v g → 2 ^ 52 ≤ g → Tried y (v + 2 * g - 2) (g - 1)
-down y v g t h = record { left = go y v g (g - 1) (pred g h) (t .left); small = omega arith }
-  where
-    pred : (g : ℕ) → 2 ^ 52 ≤ g → g ≡ suc (g - 1)
-    pred g h = omega arith
-
-    go : (y v g k : ℕ) → g ≡ suc k → v + g * g ≡ y * 2 ^ 51 + g + 2 ^ 57 → v + 2 * g - 2 + k * k ≡ y * 2 ^ 51 + k + 2 ^ 57
-    go y v g k e h =
-        let z : v + suc k * suc k ≡ y * 2 ^ 51 + suc k + 2 ^ 57 = ap (λ (x : ℕ). v + x * x) (sym e) ∙ h ∙ ap (λ (x : ℕ). y * 2 ^ 51 + x + 2 ^ 57) e in
-        omega arith
-
-pub higher : (y v g : ℕ) → Tried y v g → g < 2 ^ 53 → 2 ^ 57 + 2 * g < v → Tried y (v - 2 * g) (g + 1)
-higher y v g t h k = record { left = go y v g (t .left) k; small = omega arith }
-  where
-    go : (y v g : ℕ) → v + g * g ≡ y * 2 ^ 51 + g + 2 ^ 57 → 2 ^ 57 + 2 * g < v → v - 2 * g + (g + 1) * (g + 1) ≡ y * 2 ^ 51 + (g + 1) + 2 ^ 57
-    go y v g e k = omega arith
-
-pub passed : (y v g : ℕ) → Tried y v g → 2 ^ 57 < v → v ≤ 2 ^ 57 + 2 * g → NearRoot y g
-passed y v g t l h = let e = t .left in (omega arith, omega arith)
+-- ---- the test
+pub passed : (y t d rest left : ℕ) → rest + t * t ≡ y * 512 → left + t * d ≡ rest * 2 ^ 20 + 2 ^ 34 → d * d + 2 ^ 56 < left * 2 ^ 22 + (t * 2 ^ 21 + d) → left * 2 ^ 22 ≤ d * d + 2 ^ 56 + (t * 2 ^ 21 + d) → NearRoot y (t * 2 ^ 21 + d)
+passed y t d rest left e f h l = (omega arith, omega arith)
 
 -- ---- from the nearest whole number to the whole root of four times as much
 pub halved : (y q : ℕ) → NearRoot y q → Halved y q

@@ -1,27 +1,25 @@
--- The fields of a positive x, and `sqrt` by them. Assumes nothing.
+-- `sqrt` by the fields of x's bit pattern: an infinity, a normal x, a subnormal x, a zero, and what is below 0 or a NaN, as `root` goes by them.
+-- A positive x is m * 2 ^ a units of 2 ^ -2148, with an m of 53 digits. Assumes nothing.
 use mathlib.Core.Path.{_≡_, refl, sym, ap, _∙_, subst}
-use mathlib.Core.Logic.{_⊎_, inl, inr}
 use Prim.Native.Nat.{ℕ, zero, suc, _+_, _-_, _*_, _/_, _%_, _^_, _≤_, _<_}
-use native.Mathlib.Nat.{lt-irrefl, zero-lt-suc, zero-mul, mul-one, mul-assoc, mul-comm, mul-right-comm, mul-div-cancel, mul-pos, mod-eq-of-lt, mul-le-mul-right, mul-lt-mul-of-pos-right, lt-of-lt-of-le, lt-of-le-of-lt, lt-of-not-le, not-le-of-lt, le-trans, le-of-eq}
+use native.Mathlib.Nat.{lt-irrefl, zero-lt-suc, zero-mul, mul-one, mul-assoc, mul-pos, mod-eq-of-lt, mul-le-mul-right, mul-lt-mul-of-pos-right, lt-of-lt-of-le, lt-of-le-of-lt, lt-of-not-le, not-le-of-lt, le-trans, le-of-eq}
 use native.Mathlib.Omega.{arith}
 use mathlib.Core.Bool.{Bool, true, false, not, cond, true≢false}
-use lib.IntN.{ℤ, pos}
-use lib.Dec.{T, leb, eqb, eqb→eq, eqb-refl, ltb, lt→ltb, nleb→lt, not-T, T-not, eqb·suc-zero, lit<, lit≤}
+use lib.IntN.{ℤ}
+use lib.Dec.{T, leb, eqb, eqb→eq, nleb→lt, lit≤}
 use lib.Pow.{pow-add, pow-pos, pow-mono}
 use lib.Count.{leadingZeros, leading-top}
-use lib.Ieee.{Float, nan, inf, fin, binary64, up, down, odd, lt, eq, level, div, ofFields, ofBits, toBits, fits, isNan}
-use lib.Ieee.Fits.{up-pos, down-pos, and-l}
+use lib.Ieee.{Float, nan, inf, fin, binary64, up, down, odd, lt, eq, level, ofFields, ofBits, toBits, fits, isNan}
+use lib.Ieee.Fits.{up-pos, and-l}
 use lib.Ieee.Exact.{HasValue, odd-sign}
-use lib.Ieee.Bits.{ofBits-toBits, toBits-lt}
-use lib.Ieee.Positive.{positive, positive-of-value}
-use borrow.Author.Tests.{lt-ltb, lt-leb, ne-eqb, ltb-false}
-use Rattle.geometry.specs.Root.{sqrt, rootOf}
-
-abbrev pub nought : Float
-nought = fin false 0 (pos 0)
+use lib.Ieee.Bits.{ofBits-toBits}
+use borrow.Author.Tests.{lt-leb, ne-eqb}
+use Rattle.geometry.specs.Float.{zero64}
+use Rattle.geometry.specs.Root.{number, operand, rootOf, sqrt}
+use Rattle.geometry.proofs.Laws.Root.Special.{sqrt-infinite, number-above, number-at}
 
 -- ---- what is above 0 is no NaN
-pub above-no-nan : (x : Float) → lt nought x ≡ true → T (not (isNan x))
+pub above-no-nan : (x : Float) → lt zero64 x ≡ true → T (not (isNan x))
 unfolding lt isNan
 above-no-nan nan h = absurd (true≢false (sym h))
 above-no-nan (inf s) h = tt
@@ -38,17 +36,17 @@ above-any (fin s m e) (inf t) h = tt
 above-any (fin s m e) (fin t n d) h = tt
 
 -- ---- with the sign's bit set nothing is above 0
-odd-negative : (q k : ℕ) → lt nought (odd 53 true q k 1074) ≡ false
+odd-negative : (q k : ℕ) → lt zero64 (odd 53 true q k 1074) ≡ false
 unfolding lt odd
 odd-negative zero k = refl
 odd-negative (suc q) k = refl
 
-negative : (w t : ℕ) → lt nought (ofFields binary64 true w t) ≡ false
+negative : (w t : ℕ) → lt zero64 (ofFields binary64 true w t) ≡ false
 unfolding ofFields lt
 negative zero t = odd-negative t 0
 negative (suc w) t = go (eqb (suc w) 2047) (eqb t 0)
   where
-    go : (a b : Bool) → lt nought (cond a (cond b (inf true) nan) (odd 53 true (2 ^ 52 + t) w 1074)) ≡ false
+    go : (a b : Bool) → lt zero64 (cond a (cond b (inf true) nan) (odd 53 true (2 ^ 52 + t) w 1074)) ≡ false
     go true true = refl
     go true false = refl
     go false b = odd-negative (2 ^ 52 + t) w
@@ -57,12 +55,12 @@ ofBits-is : (b : ℕ) → ofBits binary64 b ≡ ofFields binary64 (leb (2 ^ 63) 
 unfolding ofBits
 ofBits-is b = refl
 
-pub bits-small : (x : Float) → T (fits binary64 x) → lt nought x ≡ true → toBits binary64 x < 2 ^ 63
+pub bits-small : (x : Float) → T (fits binary64 x) → lt zero64 x ≡ true → toBits binary64 x < 2 ^ 63
 bits-small x f h =
     let b = toBits binary64 x in
-    nleb→lt (2 ^ 63) b (sign (leb (2 ^ 63) b) (ap (lt nought) (sym (ofBits-is b) ∙ ofBits-toBits binary64 x f) ∙ h))
+    nleb→lt (2 ^ 63) b (sign (leb (2 ^ 63) b) (ap (lt zero64) (sym (ofBits-is b) ∙ ofBits-toBits binary64 x f) ∙ h))
   where
-    sign : (s : Bool) → lt nought (ofFields binary64 s (toBits binary64 x % 2 ^ 63 / 2 ^ 52) (toBits binary64 x % 2 ^ 52)) ≡ true → T (not s)
+    sign : (s : Bool) → lt zero64 (ofFields binary64 s (toBits binary64 x % 2 ^ 63 / 2 ^ 52) (toBits binary64 x % 2 ^ 52)) ≡ true → T (not s)
     sign true e = absurd (true≢false (sym e ∙ negative (toBits binary64 x % 2 ^ 63 / 2 ^ 52) (toBits binary64 x % 2 ^ 52)))
     sign false e = tt
 
@@ -73,7 +71,7 @@ field x = toBits binary64 x / 2 ^ 52
 abbrev pub digits : Float → ℕ
 digits x = toBits binary64 x % 2 ^ 52
 
-pub by-fields : (x : Float) → T (fits binary64 x) → lt nought x ≡ true → x ≡ ofFields binary64 false (field x) (digits x)
+pub by-fields : (x : Float) → T (fits binary64 x) → lt zero64 x ≡ true → x ≡ ofFields binary64 false (field x) (digits x)
 by-fields x f h =
     let b = toBits binary64 x in
     let l = bits-small x f h in
@@ -86,15 +84,11 @@ by-fields x f h =
     above a b h = lt-leb a b h
 
 -- ---- the highest field: an infinity
-sqrt-inf : sqrt (inf false) ≡ inf false
-unfolding sqrt
-sqrt-inf = refl
-
 at-ones : (t : ℕ) → ofFields binary64 false 2047 t ≡ cond (eqb t 0) (inf false) nan
 unfolding ofFields
 at-ones t = refl
 
-pub is-infinite : (x : Float) → T (fits binary64 x) → lt nought x ≡ true → field x ≡ 2047 → x ≡ inf false
+pub is-infinite : (x : Float) → T (fits binary64 x) → lt zero64 x ≡ true → field x ≡ 2047 → x ≡ inf false
 unfolding isNan
 is-infinite x f h e =
     let is : x ≡ cond (eqb (digits x) 0) (inf false) nan = by-fields x f h ∙ ap (λ (w : ℕ). ofFields binary64 false w (digits x)) e ∙ at-ones (digits x) in
@@ -104,23 +98,13 @@ is-infinite x f h e =
     go true e n = e
     go false e n = absurd (subst (λ (v : Float). T (not (isNan v))) e n)
 
-pub infinite : (x : Float) → T (fits binary64 x) → lt nought x ≡ true → field x ≡ 2047 → x ≡ sqrt x
-infinite x f h e = let y = is-infinite x f h e in y ∙ sym (ap sqrt y ∙ sqrt-inf)
+pub infinite : (x : Float) → T (fits binary64 x) → lt zero64 x ≡ true → field x ≡ 2047 → x ≡ sqrt x
+infinite x f h e = let y = is-infinite x f h e in y ∙ sym (ap sqrt y ∙ sqrt-infinite)
 
 -- ---- `sqrt` of a positive finite value, by its size in units
-sqrt-is : (m : ℕ) (e : ℤ) → sqrt (fin false (suc m) e) ≡ rootOf (suc m * up e * 2 ^ 2148 / down e)
+by-value : (x : Float) (A : ℕ) → 0 < A → HasValue x false A (2 ^ 1074) → sqrt x ≡ rootOf (number (A * 2 ^ 1074))
 unfolding sqrt
-sqrt-is m e = refl
-
-pub by-value : (x : Float) (A : ℕ) → 0 < A → HasValue x false A (2 ^ 1074) → sqrt x ≡ rootOf (A * 2 ^ 1074)
-by-value nan A p h = absurd h
-by-value (inf s) A p h = absurd h
-by-value (fin true m e) A p h = absurd (true≢false (h .0))
-by-value (fin false zero e) A p h = absurd (lt-irrefl 0 (subst (λ (z : ℕ). 0 < z) (sym (h .1) ∙ ap (λ (z : ℕ). z * 2 ^ 1074) (zero-mul (up e)) ∙ zero-mul (2 ^ 1074)) (mul-pos p (down-pos e))))
-by-value (fin false (suc m) e) A p h =
-    sqrt-is m e
-    ∙ ap (λ (z : ℕ). rootOf (z / down e)) (sym (mul-assoc (suc m * up e) (2 ^ 1074) (2 ^ 1074)) ∙ ap (λ (z : ℕ). z * 2 ^ 1074) (h .1) ∙ mul-right-comm A (down e) (2 ^ 1074))
-    ∙ ap rootOf (mul-div-cancel (A * 2 ^ 1074) (down-pos e))
+by-value x A p h = ap rootOf (number-at x A p h)
 
 -- ---- a normal x
 normal-is : (w t : ℕ) → (w ≡ 2047 → ⊥) → 0 < w → HasValue (ofFields binary64 false w t) false ((2 ^ 52 + t) * 2 ^ (w - 1)) (2 ^ 1074)
@@ -133,16 +117,16 @@ normal-is (suc w) t n p =
     less : (w : ℕ) → w ≡ suc w - 1
     less w = omega arith
 
-pub normal-value : (x : Float) → T (fits binary64 x) → lt nought x ≡ true → (field x ≡ 2047 → ⊥) → 0 < field x → HasValue x false ((2 ^ 52 + digits x) * 2 ^ (field x - 1)) (2 ^ 1074)
+pub normal-value : (x : Float) → T (fits binary64 x) → lt zero64 x ≡ true → (field x ≡ 2047 → ⊥) → 0 < field x → HasValue x false ((2 ^ 52 + digits x) * 2 ^ (field x - 1)) (2 ^ 1074)
 normal-value x f h n p = subst (λ (v : Float). HasValue v false ((2 ^ 52 + digits x) * 2 ^ (field x - 1)) (2 ^ 1074)) (sym (by-fields x f h)) (normal-is (field x) (digits x) n p)
 
-pub normal : (x : Float) → T (fits binary64 x) → lt nought x ≡ true → (field x ≡ 2047 → ⊥) → 0 < field x → rootOf ((digits x + 2 ^ 52) * 2 ^ (field x + 1073)) ≡ sqrt x
+pub normal : (x : Float) → T (fits binary64 x) → lt zero64 x ≡ true → (field x ≡ 2047 → ⊥) → 0 < field x → rootOf (number ((digits x + 2 ^ 52) * 2 ^ (field x + 1073))) ≡ sqrt x
 normal x f h n p =
     let w = field x in
     let t = digits x in
     sym (by-value x ((2 ^ 52 + t) * 2 ^ (w - 1)) (mul-pos (more t) (pow-pos (w - 1)))
     (normal-value x f h n p)
-    ∙ ap rootOf (mul-assoc (2 ^ 52 + t) (2 ^ (w - 1)) (2 ^ 1074) ∙ ap (λ (z : ℕ). (2 ^ 52 + t) * z) (sym (pow-add 2 (w - 1) 1074)) ∙ ap (λ (z : ℕ). (2 ^ 52 + t) * 2 ^ z) (up-one w p) ∙ ap (λ (z : ℕ). z * 2 ^ (w + 1073)) (swap t)))
+    ∙ ap (λ (z : ℕ). rootOf (number z)) (mul-assoc (2 ^ 52 + t) (2 ^ (w - 1)) (2 ^ 1074) ∙ ap (λ (z : ℕ). (2 ^ 52 + t) * z) (sym (pow-add 2 (w - 1) 1074)) ∙ ap (λ (z : ℕ). (2 ^ 52 + t) * 2 ^ z) (up-one w p) ∙ ap (λ (z : ℕ). z * 2 ^ (w + 1073)) (swap t)))
   where
     more : (t : ℕ) → 0 < 2 ^ 52 + t
     more t = omega arith
@@ -158,22 +142,22 @@ low-is : (t : ℕ) → ofFields binary64 false 0 t ≡ odd 53 false t 0 1074
 unfolding ofFields
 low-is t = refl
 
-zero-is : odd 53 false 0 0 1074 ≡ nought
+zero-is : odd 53 false 0 0 1074 ≡ zero64
 unfolding odd
 zero-is = refl
 
-lt-zero : lt nought nought ≡ false
+lt-zero : lt zero64 zero64 ≡ false
 unfolding lt
 lt-zero = refl
 
-pub low-value : (x : Float) → T (fits binary64 x) → lt nought x ≡ true → field x ≡ 0 → x ≡ odd 53 false (digits x) 0 1074
+pub low-value : (x : Float) → T (fits binary64 x) → lt zero64 x ≡ true → field x ≡ 0 → x ≡ odd 53 false (digits x) 0 1074
 low-value x f h e = by-fields x f h ∙ ap (λ (w : ℕ). ofFields binary64 false w (digits x)) e ∙ low-is (digits x)
 
-pub low-digits : (x : Float) → T (fits binary64 x) → lt nought x ≡ true → field x ≡ 0 → 0 < digits x
+pub low-digits : (x : Float) → T (fits binary64 x) → lt zero64 x ≡ true → field x ≡ 0 → 0 < digits x
 low-digits x f h e = go (digits x) refl
   where
     go : (t : ℕ) → digits x ≡ t → 0 < digits x
-    go zero z = absurd (true≢false (sym h ∙ ap (lt nought) (low-value x f h e ∙ ap (λ (t : ℕ). odd 53 false t 0 1074) z ∙ zero-is) ∙ lt-zero))
+    go zero z = absurd (true≢false (sym h ∙ ap (lt zero64) (low-value x f h e ∙ ap (λ (t : ℕ). odd 53 false t 0 1074) z ∙ zero-is) ∙ lt-zero))
     go (suc t) z = subst (λ (y : ℕ). 0 < y) (sym z) (zero-lt-suc t)
 
 -- the count z of the leading zeros of t, below 2 ^ 52: t * 2 ^ (z - 11) has 53 digits
@@ -209,22 +193,22 @@ shifted t p h =
     join-suc : (j : ℕ) → j < 52 → 53 ≡ suc j + (52 - j)
     join-suc j h = omega arith
 
-pub low-size : (x : Float) → T (fits binary64 x) → lt nought x ≡ true → field x ≡ 0 → HasValue x false (digits x * 2 ^ 0) (2 ^ 1074)
+pub low-size : (x : Float) → T (fits binary64 x) → lt zero64 x ≡ true → field x ≡ 0 → HasValue x false (digits x * 2 ^ 0) (2 ^ 1074)
 low-size x f h e = subst (λ (v : Float). HasValue v false (digits x * 2 ^ 0) (2 ^ 1074)) (sym (low-value x f h e)) (odd-sign 53 false (digits x) 0 1074)
 
-pub subnormal : (x : Float) (s : ℕ) → T (fits binary64 x) → lt nought x ≡ true → field x ≡ 0 → s ≤ 1074 → rootOf (digits x * 2 ^ s * 2 ^ (1074 - s)) ≡ sqrt x
+pub subnormal : (x : Float) (s : ℕ) → T (fits binary64 x) → lt zero64 x ≡ true → field x ≡ 0 → s ≤ 1074 → rootOf (number (digits x * 2 ^ s * 2 ^ (1074 - s))) ≡ sqrt x
 subnormal x s f h e l =
     let t = digits x in
     sym (by-value x (t * 2 ^ 0) (subst (λ (z : ℕ). 0 < z) (sym (mul-one t)) (low-digits x f h e))
     (low-size x f h e)
-    ∙ ap rootOf (ap (λ (z : ℕ). z * 2 ^ 1074) (mul-one t) ∙ ap (λ (z : ℕ). t * 2 ^ z) (join s l) ∙ ap (λ (z : ℕ). t * z) (pow-add 2 s (1074 - s)) ∙ sym (mul-assoc t (2 ^ s) (2 ^ (1074 - s)))))
+    ∙ ap (λ (z : ℕ). rootOf (number z)) (ap (λ (z : ℕ). z * 2 ^ 1074) (mul-one t) ∙ ap (λ (z : ℕ). t * 2 ^ z) (join s l) ∙ ap (λ (z : ℕ). t * z) (pow-add 2 s (1074 - s)) ∙ sym (mul-assoc t (2 ^ s) (2 ^ (1074 - s)))))
   where
     join : (s : ℕ) → s ≤ 1074 → 1074 ≡ s + (1074 - s)
     join s l = omega arith
 
 -- ---- a zero, and what is below 0 or a NaN
-pub zeros : (x : Float) → eq x nought ≡ true → x ≡ sqrt x
-unfolding eq sqrt
+pub zeros : (x : Float) → eq x zero64 ≡ true → x ≡ sqrt x
+unfolding eq sqrt operand rootOf
 zeros nan h = absurd (true≢false (sym h))
 zeros (inf s) h = absurd (true≢false (sym h))
 zeros (fin s zero e) h = refl
@@ -232,7 +216,7 @@ zeros (fin s (suc m) e) h =
     let t : T (eqb (suc m * up e * 1) (0 * 1 * down e)) = and-l (eqb (suc m * up e * 1) (0 * 1 * down e)) _ (subst T (sym h) tt) in
     absurd (lt-irrefl 0 (subst (λ (z : ℕ). 0 < z) (eqb→eq (suc m * up e * 1) (0 * 1 * down e) t ∙ zero-mul (down e)) (mul-pos (mul-pos (zero-lt-suc m) (up-pos e)) (zero-lt-suc 0))))
 
-zero-eq : (s : Bool) (e : ℤ) → eq (fin s zero e) nought ≡ true
+zero-eq : (s : Bool) (e : ℤ) → eq (fin s zero e) zero64 ≡ true
 unfolding eq
 zero-eq s e = ap (λ (a : ℕ). level s (a * 1) false (0 * 1 * down e)) (zero-mul (up e)) ∙ ap (λ (b : ℕ). level s 0 false b) (zero-mul (down e)) ∙ go s
   where
@@ -240,15 +224,11 @@ zero-eq s e = ap (λ (a : ℕ). level s (a * 1) false (0 * 1 * down e)) (zero-mu
     go true = refl
     go false = refl
 
-pos-above : (m : ℕ) (e : ℤ) → lt nought (fin false (suc m) e) ≡ true
-unfolding lt
-pos-above m e = lt-ltb (0 * 1 * down e) (suc m * up e * 1) (subst (λ (z : ℕ). z < suc m * up e * 1) (sym (zero-mul (down e))) (mul-pos (mul-pos (zero-lt-suc m) (up-pos e)) (zero-lt-suc 0)))
-
-pub rest-nan : (x : Float) → lt nought x ≡ false → eq x nought ≡ false → nan ≡ sqrt x
-unfolding sqrt lt
+pub rest-nan : (x : Float) → lt zero64 x ≡ false → eq x zero64 ≡ false → nan ≡ sqrt x
+unfolding sqrt operand rootOf lt
 rest-nan nan h k = refl
 rest-nan (inf true) h k = refl
 rest-nan (inf false) h k = absurd (true≢false h)
 rest-nan (fin s zero e) h k = absurd (true≢false (sym (zero-eq s e) ∙ k))
 rest-nan (fin true (suc m) e) h k = refl
-rest-nan (fin false (suc m) e) h k = absurd (true≢false (sym (pos-above m e) ∙ h))
+rest-nan (fin false (suc m) e) h k = absurd (true≢false (sym (number-above m e) ∙ h))

@@ -1,12 +1,12 @@
--- The whole root: it is unique, `isqrt` is it, and with 4 ^ j times the number it has j more binary digits. Assumes nothing.
-use mathlib.Core.Path.{_≡_, refl, sym, ap, _∙_, subst}
-use Prim.Native.Nat.{ℕ, zero, suc, _+_, _-_, _*_, _/_, _%_, _^_, _≤_, _<_}
-use native.Mathlib.Nat.{le-antisymm, le-of-suc-le-suc, lt-of-not-le, lt-of-le-of-lt, lt-of-lt-of-le, not-le-of-lt, mul-le-mul, mul-le-mul-right, mul-lt-mul-of-pos-right, mul-pos, mul-mul-mul-comm, mul-comm, pow-suc, div-lt-iff-lt-mul, zero-lt-suc}
+-- Part 2 of `sqrt`: the whole root and its remainder are exact. The whole root of a number is unique, `isqrt` gives it, and that of P * P
+-- times the number lies between P times it and P times the next. Assumes nothing.
+use mathlib.Core.Path.{_≡_, subst}
+use Prim.Native.Nat.{ℕ, zero, suc, _+_, _-_, _*_, _/_, _^_, _≤_, _<_}
+use native.Mathlib.Nat.{le-antisymm, le-of-suc-le-suc, lt-of-not-le, lt-of-le-of-lt, not-le-of-lt, mul-le-mul, mul-le-mul-right, mul-lt-mul-of-pos-right, mul-pos, mul-mul-mul-comm, pow-suc, div-lt-iff-lt-mul, zero-lt-suc}
 use native.Mathlib.Omega.{arith}
 use mathlib.Core.Bool.{Bool, true, false, not, cond}
-use lib.Dec.{T, leb, leb→le, nleb→lt, lit<}
-use lib.Pow.{pow-pos}
-use Rattle.geometry.specs.Root.{isqrt}
+use lib.Dec.{T, leb, leb→le, nleb→lt}
+use Rattle.geometry.specs.Root.{isqrt, Exact, exactRoot}
 use Rattle.geometry.specs.Whole.{IsRoot}
 
 pub square-lt : (a b : ℕ) → a * a < b * b → a < b
@@ -42,6 +42,26 @@ isqrt-is (suc k) n h =
     let r = isqrt k (n / 4) in
     pick n r (leb ((2 * r + 1) * (2 * r + 1)) n) (isqrt-is k (n / 4) (div-lt-iff-lt-mul (zero-lt-suc 3) .1 (subst (λ (z : ℕ). n < z) (pow-suc 4 k) h)))
     (leb→le ((2 * r + 1) * (2 * r + 1)) n) (nleb→lt ((2 * r + 1) * (2 * r + 1)) n)
+
+-- ---- the exact root
+
+-- x is the root of n, exactly: the whole root's square and the remainder make n, and no larger whole number's square is within n
+pub record IsExact (n : ℕ) (x : Exact) : Type 0 where
+  pub sum : x .whole * x .whole + x .remainder ≡ n
+  pub most : n < (x .whole + 1) * (x .whole + 1)
+
+pub exact-root : (n : ℕ) → n < 4 ^ 1586 → IsExact n (exactRoot n)
+unfolding exactRoot
+exact-root n h = let r = isqrt-is 1586 n h in record { sum = back (isqrt 1586 n * isqrt 1586 n) n (r .0); most = r .1 }
+  where
+    back : (s n : ℕ) → s ≤ n → s + (n - s) ≡ n
+    back s n h = omega arith
+
+pub is-root : (n : ℕ) (x : Exact) → IsExact n x → IsRoot n (x .whole)
+is-root n x h = (within (x .whole * x .whole) (x .remainder) n (h .sum), h .most)
+  where
+    within : (s r n : ℕ) → s + r ≡ n → s ≤ n
+    within s r n e = omega arith
 
 -- ---- with P * P times the number: r is between s * P and (s + 1) * P
 pub scaled-low : (M P s r : ℕ) → s * s ≤ M → M * (P * P) < (r + 1) * (r + 1) → s * P ≤ r

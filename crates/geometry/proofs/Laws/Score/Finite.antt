@@ -1,50 +1,49 @@
 -- The score of a tetrahedron with points within 2 ^ 20 is finite. Where the sum of squaredEdge squaredEdges L is 2 ^ -634 or more, so is its root 2 ^ -317 and the divisor 2 ^ -951, and the determinant is within 2 ^ 66.
 -- Where L is less, each coordinate of an edge is within 2 ^ -317, and the determinant within 2 ^ -948, while the divisor is one unit at least. Assumes nothing.
-use mathlib.Core.Path.{_≡_, refl, sym, ap, _∙_, subst}
+use mathlib.Core.Path.{_≡_, refl, sym, ap, _∙_}
 use mathlib.Core.Logic.{_⊎_, inl, inr}
-use Prim.Native.Nat.{ℕ, zero, suc, _+_, _-_, _*_, _/_, _%_, _^_, _≤_, _<_, zero-le}
-use native.Mathlib.Nat.{le-trans, le-of-eq, le-of-lt, lt-of-lt-of-le, lt-of-le-of-lt, lt-of-not-le, le-of-suc-le-suc, mul-le-mul-right, mul-right-comm, mul-assoc, le-div-iff-mul-le, div-lt-iff-lt-mul, lt-of-mul-lt-mul-right, mul-lt-mul-of-pos-right, le-of-mul-le-mul-right, le-add-right, zero-mul, mul-pos, not-le-of-lt}
+use Prim.Native.Nat.{ℕ, zero, suc, _+_, _-_, _*_, _/_, _^_, _≤_, _<_}
+use native.Mathlib.Nat.{le-trans, le-of-eq, lt-of-lt-of-le, lt-of-le-of-lt, lt-of-not-le, mul-le-mul-right, mul-right-comm, mul-assoc, le-div-iff-mul-le, div-lt-iff-lt-mul, lt-of-mul-lt-mul-right, mul-lt-mul-of-pos-right, zero-mul, mul-pos, not-le-of-lt}
 use native.Mathlib.Decide.{decLe}
 use native.Mathlib.Omega.{arith}
 use mathlib.Core.Bool.{Bool, true, false, not, cond, true≢false}
-use lib.IntN.{ℤ, pos, negsuc}
 use lib.Dec.{T, eqb, lit<, lit≤}
 use lib.Pow.{pow-pos, pow-add, le-ones}
-use lib.Ieee.{Float, nan, inf, fin, binary64, up, down, round, neg, lt, eq, mul, div, fits}
+use lib.Ieee.{Float, nan, inf, fin, binary64, up, down, lt, eq, div, fits}
 use lib.Ieee.Fits.{down-pos, add-fits, mul-fits, div-fits, cond-fits}
 use Rattle.geometry.specs.Literals.{e-12}
 use Rattle.geometry.proofs.Laws.Float.Tolerance.{Least, tolerance}
-use Rattle.geometry.specs.Root.{isqrt, rootOf, sqrt}
-use Rattle.geometry.proofs.Laws.Root.Whole.{isqrt-is, root-le}
+use Rattle.geometry.specs.Root.{number, operand, exactRoot, rounded, rootOf, sqrt}
+use Rattle.geometry.proofs.Laws.Root.Whole.{exact-root, root-le}
+use Rattle.geometry.proofs.Laws.Root.Rounding.{halves}
 use Rattle.geometry.specs.Units.{unitsOf, Within, within, NotNegative}
 use Rattle.geometry.proofs.Laws.Float.Units.{units-exact}
 use Rattle.geometry.proofs.Laws.Float.Magnitude.{mul-within, add-within, sub-within, within-more}
-use Rattle.geometry.proofs.Laws.Float.Sign.{Signed, round-signed}
+use Rattle.geometry.proofs.Laws.Float.Sign.{Signed}
 use Rattle.geometry.proofs.Laws.Float.Up.{up-not-negative, add-signed, square-signed}
 use Rattle.geometry.proofs.Laws.Float.Diff.{AtLeast, div-within}
 use Rattle.geometry.proofs.Laws.Float.Lower.{round-least, mul-least, square-small, sum-left, sum-right, one-unit}
 use Rattle.geometry.specs.declared.point.Point.{Point}
 use Rattle.geometry.specs.Float.{_+₆₄_, _-₆₄_, _*₆₄_, zero64, absolute}
-use Rattle.geometry.specs.Point.{difference, dot, cross, determinant}
+use Rattle.geometry.specs.Point.{difference, cross, determinant}
 use Rattle.geometry.specs.Score.{R, squaredEdge, squaredEdges, score}
 use Rattle.geometry.proofs.Laws.Score.Near.{Near, minus-near, det-near, edges-near}
-use Rattle.geometry.proofs.Laws.Score.Quality.{sqrt-within, sqrt-signed, squared-signed, edges-signed, edges-fits, size-within, r-within, score-up, low-enough}
+use Rattle.geometry.proofs.Laws.Score.Quality.{sqrt-within, squared-signed, edges-signed, edges-fits, size-within, r-within, score-up, low-enough}
 
 -- ---- the root of 2 ^ 440 units or more is 2 ^ 757 units or more
-root-least : (n B : ℕ) → n < 4 ^ 1586 → 2 ^ 757 * 2 ^ 757 ≤ n → Within B (rootOf n) → AtLeast (2 ^ 757) (rootOf n)
-unfolding rootOf
+root-least : (n B : ℕ) → n < 4 ^ 1586 → 2 ^ 757 * 2 ^ 757 ≤ n → Within B (rootOf (number n)) → AtLeast (2 ^ 757) (rootOf (number n))
+unfolding rootOf rounded
 root-least n B u h w =
-    let r = isqrt 1586 n in
-    let t : ℕ = cond (eqb (r * r) n) 0 1 in
-    let r-ge : 2 ^ 757 ≤ r = root-le n (2 ^ 757) r h (isqrt-is 1586 n u .1) in
-    round-least false (2 * r + t) (2 ^ 1075) 757 B (pow-pos 1075) (lit< tt)
-    (le-trans (lit≤ {m = 2 ^ 757 * 2 ^ 1075} {n = 2 * 2 ^ 757 * 2 ^ 1074} tt) (mul-le-mul-right (2 ^ 1074) (more (2 ^ 757) r t r-ge))) w
+    let x = exactRoot n in
+    let r-ge : 2 ^ 757 ≤ x .whole = root-le n (2 ^ 757) (x .whole) h (exact-root n u .most) in
+    round-least false (halves x) (2 ^ 1075) 757 B (pow-pos 1075) (lit< tt)
+    (le-trans (lit≤ {m = 2 ^ 757 * 2 ^ 1075} {n = 2 * 2 ^ 757 * 2 ^ 1074} tt) (mul-le-mul-right (2 ^ 1074) (more (2 ^ 757) (x .whole) (cond (eqb (x .remainder) 0) 0 1) r-ge))) w
   where
     more : (p r t : ℕ) → p ≤ r → 2 * p ≤ 2 * r + t
     more p r t h = omega arith
 
 sqrt-least : (x : Float) (B : ℕ) → T (fits binary64 x) → Signed false x → AtLeast (2 ^ 440) x → Within B (sqrt x) → AtLeast (2 ^ 757) (sqrt x)
-unfolding sqrt
+unfolding sqrt operand rootOf
 sqrt-least nan B f s a w = absurd a
 sqrt-least (inf t) B f s a w = absurd a
 sqrt-least (fin true m e) B f s a w = absurd (true≢false s)
@@ -223,11 +222,11 @@ module _ (a b c d : Point) (p : Near 20 a) (q : Near 20 b) (r : Near 20 c) (s : 
   score-fits : T (fits binary64 (score a b c d))
   unfolding score
   score-fits =
-      cond-fits binary64 (eq (squaredEdges a b c d *₆₄ sqrt (squaredEdges a b c d)) zero64) zero64 (div binary64 (R *₆₄ absolute (determinant a b c d)) (squaredEdges a b c d *₆₄ sqrt (squaredEdges a b c d))) nought-fits
+      cond-fits binary64 (eq (squaredEdges a b c d *₆₄ sqrt (squaredEdges a b c d)) zero64) zero64 (div binary64 (R *₆₄ absolute (determinant a b c d)) (squaredEdges a b c d *₆₄ sqrt (squaredEdges a b c d))) zero-fits
       (div-fits binary64 (R *₆₄ absolute (determinant a b c d)) (squaredEdges a b c d *₆₄ sqrt (squaredEdges a b c d)))
     where
-      nought-fits : T (fits binary64 zero64)
-      nought-fits = unfold fits in tt
+      zero-fits : T (fits binary64 zero64)
+      zero-fits = unfold fits in tt
 
   -- a score s that passed the test against the lowest one, where s + 1e-12 is not below m, is m - 2e-12 or more
   pub score-tolerance : (m : Float) → Least m → lt (score a b c d +₆₄ e-12) m ≡ false → 10 ^ 12 * unitsOf m ≤ 10 ^ 12 * unitsOf (score a b c d) + 2 * 2 ^ 1074

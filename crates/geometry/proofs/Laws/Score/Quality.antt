@@ -1,35 +1,35 @@
 -- The score of a tetrahedron with points within 2 ^ 20 is no NaN and not below 0. Assumes nothing.
-use mathlib.Core.Path.{_≡_, refl, sym, ap, _∙_, subst}
-use mathlib.Core.Logic.{_⊎_, inl, inr}
-use Prim.Native.Nat.{ℕ, zero, suc, _+_, _*_, _/_, _%_, _^_, _≤_, _<_, zero-le}
-use native.Mathlib.Nat.{le-trans, le-of-eq, lt-of-lt-of-le, lt-of-le-of-lt, mul-lt-mul-of-pos-right, mul-le-mul-right, mul-right-comm, mul-assoc, mul-comm, div-lt-iff-lt-mul, pow-succ', zero-lt-suc, zero-mul, mul-pos, le-add-right}
+use mathlib.Core.Path.{_≡_, refl, sym, ap, _∙_}
+use Prim.Native.Nat.{ℕ, zero, suc, _+_, _-_, _*_, _/_, _%_, _^_, _≤_, _<_, zero-le}
+use native.Mathlib.Nat.{le-trans, le-of-eq, lt-of-lt-of-le, lt-of-le-of-lt, mul-lt-mul-of-pos-right, mul-le-mul-right, mul-right-comm, div-lt-iff-lt-mul, zero-lt-suc, zero-mul, mul-pos, le-add-right}
 use native.Mathlib.Omega.{arith}
 use mathlib.Core.Bool.{Bool, true, false, not, cond, _&&_, true≢false}
-use lib.IntN.{ℤ, pos, negsuc}
+use lib.IntN.{ℤ}
 use lib.Dec.{T, leb, ltb, eqb, ltb→lt, lit<, lit≤}
-use lib.Pow.{pow-add, pow-pos}
-use lib.Ieee.{Float, nan, inf, fin, binary64, up, down, round, neg, lt, eq, mul, div, fits, isNan}
+use lib.Pow.{pow-pos}
+use lib.Ieee.{Float, nan, inf, fin, binary64, up, down, neg, lt, eq, div, fits, isNan}
 use lib.Ieee.Fits.{up-pos, down-pos, and-r, add-fits}
 use borrow.Author.Tests.{lt-ltb}
-use Rattle.geometry.specs.Root.{isqrt, rootOf, sqrt}
-use Rattle.geometry.proofs.Laws.Root.Whole.{isqrt-is, square-lt}
-use Rattle.geometry.specs.Units.{Within, within, NotNegative}
-use Rattle.geometry.proofs.Laws.Float.Magnitude.{round-within, mul-within, within-neg, within-more}
+use Rattle.geometry.specs.Root.{number, operand, exactRoot, rounded, rootOf, sqrt}
+use Rattle.geometry.proofs.Laws.Root.Whole.{exact-root, is-root, square-lt}
+use Rattle.geometry.proofs.Laws.Root.Rounding.{halves, bit-le}
+use Rattle.geometry.specs.Units.{Within}
+use Rattle.geometry.proofs.Laws.Float.Magnitude.{round-within, mul-within, within-neg}
 use Rattle.geometry.proofs.Laws.Float.Sign.{Signed, round-signed}
 use Rattle.geometry.proofs.Laws.Float.Up.{Up, signed-up, add-signed, square-signed, mul-up, div-up, up-not-nan, up-not-below}
 use Rattle.geometry.specs.declared.point.Point.{Point}
-use Rattle.geometry.specs.Float.{_+₆₄_, _-₆₄_, _*₆₄_, zero64, absolute}
-use Rattle.geometry.specs.Point.{difference, dot, determinant}
+use Rattle.geometry.specs.Float.{_+₆₄_, _*₆₄_, zero64, absolute}
+use Rattle.geometry.specs.Point.{difference, determinant}
 use Rattle.geometry.specs.Score.{R, squaredEdge, squaredEdges, score}
 use Rattle.geometry.proofs.Laws.Score.Near.{Near, minus-near, det-near, edges-near}
 
 -- ---- the root
-root-signed : (n : ℕ) → Signed false (rootOf n)
-unfolding rootOf
-root-signed n = round-signed binary64 false (2 * isqrt 1586 n + cond (eqb (isqrt 1586 n * isqrt 1586 n) n) 0 1) (2 ^ 1075)
+root-signed : (n : ℕ) → Signed false (rootOf (number n))
+unfolding rootOf rounded
+root-signed n = round-signed binary64 false (halves (exactRoot n)) (2 ^ 1075)
 
 pub sqrt-signed : (x : Float) → Signed false x → Signed false (sqrt x)
-unfolding sqrt
+unfolding sqrt operand rootOf
 sqrt-signed nan h = absurd h
 sqrt-signed (inf true) h = absurd (true≢false h)
 sqrt-signed (inf false) h = refl
@@ -38,19 +38,14 @@ sqrt-signed (fin false zero e) h = refl
 sqrt-signed (fin false (suc m) e) h = root-signed (suc m * up e * 2 ^ 2148 / down e)
 
 -- the root of anything finite is below 2 ^ 512, which is 2 ^ 1586 units
-root-within : (n : ℕ) → n < 4 ^ 1586 → Within (2 ^ 1586) (rootOf n)
-unfolding rootOf
+root-within : (n : ℕ) → n < 4 ^ 1586 → Within (2 ^ 1586) (rootOf (number n))
+unfolding rootOf rounded
 root-within n h =
-    let r = isqrt 1586 n in
-    let t : ℕ = cond (eqb (r * r) n) 0 1 in
-    let r-lt : r < 2 ^ 1586 = square-lt r (2 ^ 1586) (lt-of-le-of-lt (isqrt-is 1586 n h .0) (lt-of-lt-of-le h (lit≤ {m = 4 ^ 1586} {n = 2 ^ 1586 * 2 ^ 1586} tt))) in
-    round-within false (2 * r + t) (2 ^ 1075) 1586 (pow-pos 1075) (lit< tt)
-    (le-trans (mul-le-mul-right (2 ^ 1074) (under r t (2 ^ 1586) (bit (eqb (r * r) n)) r-lt)) (lit≤ {m = 2 * 2 ^ 1586 * 2 ^ 1074} {n = 2 ^ 1586 * 2 ^ 1075} tt))
+    let x = exactRoot n in
+    let r-lt : x .whole < 2 ^ 1586 = square-lt (x .whole) (2 ^ 1586) (lt-of-le-of-lt (is-root n x (exact-root n h) .0) (lt-of-lt-of-le h (lit≤ {m = 4 ^ 1586} {n = 2 ^ 1586 * 2 ^ 1586} tt))) in
+    round-within false (halves x) (2 ^ 1075) 1586 (pow-pos 1075) (lit< tt)
+    (le-trans (mul-le-mul-right (2 ^ 1074) (under (x .whole) (cond (eqb (x .remainder) 0) 0 1) (2 ^ 1586) (bit-le (eqb (x .remainder) 0)) r-lt)) (lit≤ {m = 2 * 2 ^ 1586 * 2 ^ 1074} {n = 2 ^ 1586 * 2 ^ 1075} tt))
   where
-    bit : (b : Bool) → cond b 0 1 ≤ 1
-    bit true = omega arith
-    bit false = omega arith
-
     under : (r t p : ℕ) → t ≤ 1 → r < p → 2 * r + t ≤ 2 * p
     under r t p h k = omega arith
 
@@ -59,7 +54,7 @@ unfolding fits
 low-enough m e h = ltb→lt (suc m * up e) (2 ^ 1024 * down e) (and-r (eqb (suc m % 2) 1 && ltb (suc m) (2 ^ 53) && leb (down e) (2 ^ 1074)) (ltb (suc m * up e) (2 ^ 1024 * down e)) h)
 
 pub sqrt-within : (B : ℕ) (x : Float) → T (fits binary64 x) → Within B x → Signed false x → Within (2 ^ 1586) (sqrt x)
-unfolding sqrt
+unfolding sqrt operand rootOf
 sqrt-within B nan f w h = absurd h
 sqrt-within B (inf s) f w h = absurd w
 sqrt-within B (fin true m e) f w h = absurd (true≢false h)

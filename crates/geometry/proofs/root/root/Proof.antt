@@ -1,15 +1,15 @@
--- `froot::root` meets its contract (`Value.antt`). Assumes nothing.
-use mathlib.Core.Path.{_≡_, refl, sym, ap, _∙_, subst}
+-- `root` meets its contract: the fields of x's pattern give its digits and exponent, and `sqrt` goes by the same cases (`Value.antt`). Assumes nothing.
+use mathlib.Core.Path.{_≡_, sym, ap, _∙_, subst}
 use mathlib.Core.Bool.{true, false}
-use Prim.Native.Nat.{ℕ, _+_, _-_, _*_, _/_, _%_, _^_, _≤_, _<_}
+use Prim.Native.Nat.{ℕ, _+_, _-_, _*_, _%_, _^_, _≤_, _<_}
 use native.Mathlib.Omega.{arith}
 use native.Mathlib.Nat.{mod-eq-of-lt, lt-of-lt-of-le}
 use lib.Dec.{T, lit≤}
 use lib.IntN.{pos}
 use lib.Count.{leadingZeros}
-use lib.Ieee.{Float, nan, fin, binary64, fits, lt, toBits, ofBits, div}
+use lib.Ieee.{Float, fin, binary64, fits, lt, toBits, ofBits, div}
 use borrow.Author.Needs.{needs}
-use Rattle.geometry.specs.Root.{sqrt, rootOf}
+use Rattle.geometry.specs.Root.{number, rootOf}
 use Rattle.geometry.proofs.Laws.Root.Value.{field, digits, above-no-nan, bits-small, infinite, normal, subnormal, low-digits, shifted, zeros, rest-nan}
 use Rattle.geometry.proofs.root.root.Statement.{statement}
 use Rattle.geometry.proofs.root.root.Tie as tie
@@ -73,17 +73,33 @@ sub-shift : tie.Need-sub-shift
 unfolding x
 sub-shift c = omega (arith, count c .0)
 
-shl-root-of-parts : tie.Need-shl-root-of-parts
+shl-m : tie.Need-shl-m
 unfolding x
-shl-root-of-parts c = omega (arith, count c .1)
+shl-m c = omega (arith, count c .1)
 
-sub-root-of-parts : tie.Need-sub-root-of-parts
+sub-a : tie.Need-sub-a
 unfolding x
-sub-root-of-parts c = omega (arith, count c .1)
+sub-a c = omega (arith, count c .1)
+
+mul-root-of-parts : tie.Need-mul-root-of-parts
+mul-root-of-parts c = search needs
+
+-- the shifted digits, and one bit above them
+pattern : (m a : ℕ) → m < 2 ^ 53 → m + a % 2 * 2 ^ 52 < 2047 * 2 ^ 52
+pattern m a h = omega arith
+
+add-root-of-parts-3 : tie.Need-add-root-of-parts-3
+unfolding x
+add-root-of-parts-3 c = record { fits = word _ (pattern _ _ (subst (λ (z : ℕ). z < 2 ^ 53) (sym (kept c)) (count c .3))) }
+  where
+    word : (n : ℕ) → n < 2047 * 2 ^ 52 → n < 2 ^ 64
+    word n h = omega arith
 
 root-of-parts-requires-2 : tie.Need-root-of-parts-requires-2
 unfolding x
-root-of-parts-requires-2 c κs = (subst (λ (z : ℕ). 2 ^ 52 ≤ z) (sym (kept c)) (count c .2), subst (λ (z : ℕ). z < 2 ^ 53) (sym (kept c)) (count c .3), omega (arith, count c .1), omega (arith, count c .1))
+root-of-parts-requires-2 c κs =
+    let m-lt = subst (λ (z : ℕ). z < 2 ^ 53) (sym (kept c)) (count c .3) in
+    (subst (λ (z : ℕ). 2 ^ 52 ≤ z) (sym (kept c)) (count c .2), m-lt, omega (arith, count c .1), omega (arith, count c .1), pattern _ _ m-lt)
 
 returns-3 : tie.Need-returns-3
 unfolding x
@@ -91,7 +107,7 @@ returns-3 c =
     let d = c .before in
     let y = x d in
     c .root-of-parts2 .ensures
-    ∙ ap (λ (z : ℕ). rootOf (z * 2 ^ (1074 - (leadingZeros 64 (digits y) - 11)))) (kept d)
+    ∙ ap (λ (z : ℕ). rootOf (number (z * 2 ^ (1074 - (leadingZeros 64 (digits y) - 11))))) (kept d)
     ∙ subnormal y (leadingZeros 64 (digits y) - 11) (held (d .before .before .before)) (above (d .before .before)) (low d) (omega (arith, count d .1))
 
 returns-4 : tie.Need-returns-4
@@ -114,8 +130,10 @@ root-spec =
     returns-2
     cast-shift
     sub-shift
-    shl-root-of-parts
-    sub-root-of-parts
+    shl-m
+    sub-a
+    mul-root-of-parts
+    add-root-of-parts-3
     root-of-parts-requires-2
     returns-3
     returns-4

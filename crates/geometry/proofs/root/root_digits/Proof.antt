@@ -1,9 +1,9 @@
--- `froot::root_digits` meets its contract: the invariant is `Step`, and the measure b. Assumes nothing.
+-- `root_digits` meets its contract: the invariant is `Step`, and the measure b. Assumes nothing.
 use mathlib.Core.Path.{sym, subst₂}
-use Prim.Native.Nat.{ℕ, _*_, _/_, _^_}
+use Prim.Native.Nat.{ℕ, _*_, _/_, _^_, _<_}
 use mathlib.Core.Logic.{⊎-elim}
 use native.Mathlib.Omega.{arith}
-use Rattle.geometry.proofs.Laws.Root.Digits.{Step, start, one, nought, done}
+use Rattle.geometry.proofs.Laws.Root.Digits.{Step, start, one-digit, zero-digit, done}
 use Rattle.geometry.proofs.root.root_digits.Statement.{statement}
 use Rattle.geometry.proofs.root.root_digits.Tie as tie
 
@@ -35,13 +35,14 @@ loop-again c =
     let rest = in-loop .before .loop .rest in
     let s = in-loop .before .loop .s in
     let b = in-loop .before .loop .b in
+    let more : 1 < b = omega arith in
     ⊎-elim
-    (λ w. subst₂ (λ (y z : ℕ). Step X (y * 2) z (b / 2)) (sym (w .1)) (sym (w .2)) (one X rest s b (in-loop .before .loop .inv) (in-loop .loop-test .taken) (w .0 .taken)))
-    (λ w. subst₂ (λ (y z : ℕ). Step X (y * 2) z (b / 2)) (sym (w .1)) (sym (w .2)) (nought X rest s b (in-loop .before .loop .inv) (in-loop .loop-test .taken) (w .0 .left)))
+    (λ w. subst₂ (λ (y z : ℕ). Step X (y * 2) z (b / 2)) (sym (w .1)) (sym (w .2)) (one-digit X rest s b (in-loop .before .loop .inv) more (w .0 .taken)))
+    (λ w. subst₂ (λ (y z : ℕ). Step X (y * 2) z (b / 2)) (sym (w .1)) (sym (w .2)) (zero-digit X rest s b (in-loop .before .loop .inv) more (w .0 .left)))
     (c .before .if1 .came)
 
 returns : tie.Need-returns Inv-loop μ-loop
-returns c = done (c .before .before .args .y * 2 ^ 53) (c .before .loop .rest) (c .before .loop .s) (c .before .loop .b) (c .before .loop .inv) (c .loop-test .left)
+returns c = done (c .before .before .args .y * 2 ^ 53) (c .before .loop .rest) (c .before .loop .s) (c .before .loop .b) (c .before .loop .inv) (omega arith)
 
 pub root-digits-spec : {M : Type 1} → statement M
 root-digits-spec =

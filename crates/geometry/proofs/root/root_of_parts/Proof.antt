@@ -1,4 +1,4 @@
--- `froot::root_of_parts` meets its contract (`Parts.antt`). Assumes nothing.
+-- `root_of_parts` meets its contract: the rounded root is its digits with the exponent's field above them (`Parts.antt`). Assumes nothing.
 use mathlib.Core.Path.{_≡_, ap, _∙_}
 use Prim.Native.Nat.{ℕ, _+_, _-_, _*_, _/_, _%_, _^_, _≤_, _<_}
 use native.Mathlib.Omega.{arith}
@@ -13,7 +13,7 @@ bit : (a : ℕ) → a % 2 < 2
 bit a = omega arith
 
 near-root-requires : tie.Need-near-root-requires
-near-root-requires c κs = (c .pre .0, c .pre .1, bit (c .args .a))
+near-root-requires c κs = (c .pre .0, c .pre .1, bit (c .args .a), c .pre .4)
 
 -- what `near_root` returns is half of a root, rounded up
 root-lt : (c : tie.After-near-root) → c .near-root .ensures .0 < 2 ^ 54
