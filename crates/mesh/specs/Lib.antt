@@ -10,6 +10,7 @@ pub mod Sets
 pub mod Boundary
 pub mod Link
 pub mod Feature
+pub mod FeatureByMasks
 pub mod Manifold
 pub mod Group
 pub mod Intake

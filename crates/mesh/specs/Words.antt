@@ -1,9 +1,12 @@
 -- Words and floats in lent slices. A slice is the list of its elements: a word is a number below 2^32, a float a value of
 -- `lib.Ieee`. Reads past the end give zero, so that every function of the crate is total. Assumes nothing.
+use mathlib.Core.Bool.{Bool, cond, _&&_}
 use mathlib.Core.List.{List, [], _∷_}
-use Prim.Native.Nat.{ℕ, zero, suc}
+use Prim.Native.Nat.{ℕ, zero, suc, _+_}
+use lib.Dec.{leb}
 use lib.Ieee.{Float}
-use lib.ListN.{getD, drop, replicate}
+use lib.ListN.{length, drop, getD, replicate}
+use lib.Seq.{paste}
 use Rattle.geometry.specs.declared.point.Point.{Point}
 use Rattle.geometry.specs.Float.{zero64}
 
@@ -22,6 +25,14 @@ zeroWords n = replicate n 0
 -- n floats, all +0.0
 abbrev pub zeroFloats : ℕ → List Float
 zeroFloats n = replicate n zero64
+
+-- whether the n places from i on lie inside m places
+unfoldable pub inside : ℕ → ℕ → ℕ → Bool
+inside i n m = leb (i + n) m
+
+-- d with the n elements of x from i on put at k; d as it is where x or d is too short
+unfoldable pub copied : {A : Type 0} → List A → ℕ → List A → ℕ → ℕ → List A
+copied x i d k n = cond (inside i n (length x) && inside k n (length d)) (paste d k (drop i x) n) d
 
 -- the point 0 0 0
 abbrev pub zeroPoint : Point

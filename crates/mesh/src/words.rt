@@ -3,7 +3,7 @@ ghost use mathlib.Core.Path.{_≡_};
 ghost use Prim.Native.Nat.{_+_, _≤_, _<_};
 ghost use lib.ListN.{length, drop, set};
 ghost use lib.Seq.{paste};
-ghost use Rattle.mesh.specs.Words.{wordAt, floatAt, zeroWords, zeroFloats};
+ghost use Rattle.mesh.specs.Words.{wordAt, floatAt, zeroWords, zeroFloats, inside, copied};
 
 // The word at i, and 0 past the end.
 pub fn word(s: &[u32], i: usize) -> u32
@@ -56,6 +56,50 @@ pub fn clear_floats(s: &mut [f64])
     while i < s.len() {
         s[i] = 0.0;
         i += 1;
+    }
+}
+
+// Whether the n places from i on lie inside m places.
+pub(crate) fn is_within(i: usize, n: usize, m: usize) -> bool
+    ensures { λ r. ⌜ r ≡ inside i n m ⌝ }
+{
+    if m < i {
+        return false;
+    }
+    n <= m - i
+}
+
+// Copies the words of x from i on, n of them, to d from k on; nothing where x or d is too short.
+pub fn copy_into(x: &[u32], i: usize, d: &mut [u32], k: usize, n: usize)
+    ensures { λ _. ⌜ now (d .exit) ≡ copied (now (x .entry)) i (now (d .entry)) k n ⌝ }
+{
+    if !is_within(i, n, x.len()) {
+        return;
+    }
+    if !is_within(k, n, d.len()) {
+        return;
+    }
+    let mut p = 0;
+    while p < n {
+        d[k + p] = x[i + p];
+        p += 1;
+    }
+}
+
+// Copies the floats of x from i on, n of them, to d from k on; nothing where x or d is too short.
+pub fn copy_floats_into(x: &[f64], i: usize, d: &mut [f64], k: usize, n: usize)
+    ensures { λ _. ⌜ now (d .exit) ≡ copied (now (x .entry)) i (now (d .entry)) k n ⌝ }
+{
+    if !is_within(i, n, x.len()) {
+        return;
+    }
+    if !is_within(k, n, d.len()) {
+        return;
+    }
+    let mut p = 0;
+    while p < n {
+        d[k + p] = x[i + p];
+        p += 1;
     }
 }
 

@@ -1,17 +1,18 @@
 -- Parts of lists, of any element type: what a paste, a fill and a part put back leave where. Assumes nothing.
 use mathlib.Core.Path.{_≡_, refl, sym, ap, ap₂, _∙_}
-use mathlib.Core.Bool.{Bool, true, false}
+use mathlib.Core.Bool.{Bool, true, false, cond, _&&_, and-false}
 use mathlib.Core.Logic.{_⊎_, inl, inr, ⊎-elim}
 use mathlib.Core.List.{List, [], _∷_, _++_, append-assoc, append-nil}
 use Prim.Native.Nat.{ℕ, zero, suc, _+_, _-_, _≤_, _<_}
 use native.Mathlib.Nat.{not-suc-le-zero, le-of-suc-le-suc, le-refl}
 use native.Mathlib.Numerals.{add-one}
 use native.Mathlib.Omega.{arith}
-use lib.Dec.{ltb}
+use lib.Dec.{ltb, leb}
 use lib.ListN.{length, take, drop, getD, set, replicate, length-take, length-drop, drop-of-length-le, List·getD-append}
-use lib.Seq.{getD-take, getD-drop, getD-append-add, ext-getD, length-take-le, take-all, take-at, drop-at, paste, paste-suc, length-paste-head}
-use borrow.Author.Tests.{ltb-true, ltb-false}
+use lib.Seq.{getD-take, getD-drop, getD-append-add, ext-getD, length-take-le, take-all, take-at, drop-at, paste, paste-suc, length-paste, length-paste-head}
+use borrow.Author.Tests.{ltb-true, ltb-false, le-leb, lt-leb, leb-true, leb-false}
 use borrow.Rule.Slice.PartMut.{midOf, postOf, putMid, take-put}
+use Rattle.mesh.specs.Words.{inside, copied}
 use Rattle.mesh.specs.Rows.{Off}
 
 -- one of two numbers is the lower
@@ -22,7 +23,7 @@ side i k = go (ltb i k) refl
     go true e = inl (ltb-true i k e)
     go false e = inr (ltb-false i k e)
 
--- within a list a read does not see its default
+-- inside a list a read does not see its default
 pub getD-any : {A : Type 0} (l : List A) (i : ℕ) (a b : A) → i < length l → getD l i a ≡ getD l i b
 getD-any [] i a b h = absurd (not-suc-le-zero h)
 getD-any (x ∷ l) zero a b h = refl
@@ -73,7 +74,7 @@ module _ {A : Type 0} (d x : List A) (k n : ℕ) (hd : k + n ≤ length d) (hx :
       rw (append-assoc (take k d) (take n x) (drop (k + n) d), drop-at (take k d) (take n x ++ drop (k + n) d) k (length-take-le k d (omega arith)))
       (take-at (take n x) (drop (k + n) d) n (length-take-le n x hx))
 
--- one more word of a copy within a list, to below its source or past its end
+-- one more word of a copy inside a list, to below its source or past its end
 pub copy-turn : {A : Type 0} (s : List A) (i k n p : ℕ) (z : A) → i + n ≤ length s → k + n ≤ length s → (i < k → i + n ≤ k) → p < n
     → set (paste s k (drop i s) p) (k + p) (getD (paste s k (drop i s) p) (i + p) z) ≡ paste s k (drop i s) (p + 1)
 copy-turn {A} s i k n p z hi hk h l =
@@ -82,6 +83,56 @@ copy-turn {A} s i k n p z hi hk h l =
   where
     over : k ≤ i + p → i < k → k + p ≤ i + p
     over m g = let x = h g in omega arith
+
+-- ---- a copy from one list to another
+
+pub within-no : (i n m : ℕ) → m < i → false ≡ inside i n m
+unfolding inside
+within-no i n m h = sym (lt-leb (i + n) m (omega arith))
+
+pub within-test : (i n m : ℕ) → i ≤ m → leb n (m - i) ≡ inside i n m
+unfolding inside
+within-test i n m h = go (leb n (m - i)) refl
+  where
+    more : m - i < n → m < i + n
+    more l = omega arith
+
+    go : (b : Bool) → leb n (m - i) ≡ b → leb n (m - i) ≡ leb (i + n) m
+    go true e = let l = leb-true n (m - i) e in e ∙ sym (le-leb (i + n) m (omega arith))
+    go false e = e ∙ sym (lt-leb (i + n) m (more (leb-false n (m - i) e)))
+
+pub within-is : (i n m : ℕ) → inside i n m ≡ true → i + n ≤ m
+unfolding inside
+within-is i n m e = leb-true (i + n) m e
+
+-- one element more
+pub into-turn : {A : Type 0} (x d : List A) (i k n p : ℕ) (z : A) → inside i n (length x) ≡ true → inside k n (length d) ≡ true → p < n
+    → set (paste d k (drop i x) p) (k + p) (getD x (i + p) z) ≡ paste d k (drop i x) (p + 1)
+into-turn x d i k n p z f g l =
+    let a = within-is i n (length x) f in
+    let b = within-is k n (length d) g in
+    rw (add-one, ← (getD-drop i x p z)) (paste-suc d k (drop i x) p z (omega arith) (omega (arith, length-drop i x)))
+
+pub into-is : {A : Type 0} (x d : List A) (i k n : ℕ) → inside i n (length x) ≡ true → inside k n (length d) ≡ true → paste d k (drop i x) n ≡ copied x i d k n
+unfolding copied
+into-is x d i k n f g = rw (f, g)
+
+pub into-short : {A : Type 0} (x d : List A) (i k n : ℕ) → inside i n (length x) ≡ false → d ≡ copied x i d k n
+unfolding copied
+into-short x d i k n f = rw f
+
+pub into-full : {A : Type 0} (x d : List A) (i k n : ℕ) → inside k n (length d) ≡ false → d ≡ copied x i d k n
+unfolding copied
+into-full x d i k n g = rw (g, and-false)
+
+pub length-copied : {A : Type 0} (x d : List A) (i k n : ℕ) → length (copied x i d k n) ≡ length d
+unfolding copied
+length-copied {A} x d i k n = go (inside i n (length x)) (inside k n (length d)) refl refl
+  where
+    go : (a b : Bool) → inside i n (length x) ≡ a → inside k n (length d) ≡ b → length (cond (a && b) (paste d k (drop i x) n) d) ≡ length d
+    go true true f g = length-paste d k (drop i x) n (within-is k n (length d) g) (omega (arith, within-is i n (length x) f, length-drop i x))
+    go true false f g = refl
+    go false b f g = refl
 
 -- ---- two lists that agree on a part
 
