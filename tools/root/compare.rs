@@ -84,18 +84,37 @@ fn squares(r: &mut Random) -> u64 {
     scaled + r.next() % 5 - 2
 }
 
-// a number whose root lies as near as can be to a value of 53 digits, or a neighbour
-fn values(r: &mut Random) -> u64 {
-    let q = r.digits() as u128;
-    let (m, odd) = leading(q * q);
-    r.normal(m, 1 - odd) + r.next() % 3 - 1
+// An odd number of d digits whose square leaves `rest` modulo 2^(d + 1), for a rest of 1 modulo 8: by one bit
+// after another, and of two such numbers the larger.
+fn with_square(rest: u64, d: u32) -> u128 {
+    let mut s: u64 = 1;
+    for k in 3..=d {
+        if (s.wrapping_mul(s) ^ rest) >> k & 1 == 1 {
+            s += 1 << (k - 1);
+        }
+    }
+    let low = s % (1 << d);
+    low.max((1 << d) - low) as u128
 }
 
-// a number whose root lies as near as can be to the middle of two values, or a neighbour
+// A number above 0 whose root, in units of its last place or of half of it (d is 53 or 54), is very near to an odd
+// whole number: the shorter the rest, the nearer.
+fn near_odd(r: &mut Random, d: u32) -> u64 {
+    let size = r.next() % 30;
+    let rest = (1 + 8 * (r.next() % (1 << size))).wrapping_sub((1 << size >> 1) * 8);
+    let s = with_square(rest, d);
+    let (m, odd) = leading((s * s).wrapping_sub(rest as i64 as u128));
+    r.normal(m, 1 - odd)
+}
+
+// a number whose root lies very near to a value of 53 digits
+fn values(r: &mut Random) -> u64 {
+    near_odd(r, 53)
+}
+
+// a number whose root lies very near to the middle of two such values
 fn ties(r: &mut Random) -> u64 {
-    let s = r.digits() as u128 * 2 + 1;
-    let (m, odd) = leading(s * s);
-    r.normal(m, 1 - odd) + r.next() % 3 - 1
+    near_odd(r, 54)
 }
 
 // just above and below the powers of 2

@@ -2,6 +2,7 @@
 pub mod Special
 pub mod Whole
 pub mod Rounding
+pub mod Together
 pub mod Digits
 pub mod Nearest
 pub mod Pattern

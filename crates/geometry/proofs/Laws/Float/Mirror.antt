@@ -7,6 +7,7 @@ use native.Mathlib.Omega.{arith}
 use mathlib.Core.Bool.{Bool, true, false, not, cond, _&&_, Bool·beq, true≢false}
 use lib.IntN.{ℤ, pos}
 use lib.Dec.{T, ltb, eqb, lit<}
+use Rattle.geometry.specs.Float.{zero64}
 use lib.Ieee.Exact.{HasValue, round-exact}
 use lib.Ieee.{Float, nan, inf, fin, binary64, up, down, unlike, round, odd, units, sum, neg, add, sub, mul, lt, below}
 use lib.Ieee.Fits.{up-pos, down-pos}
@@ -301,26 +302,23 @@ same-mul x (fin s m e) (fin t n d) h =
     (elim (h .2) [ inl q ↦ same-path (ap (λ (b : Bool). mul binary64 x (fin b m e)) q) | inr z ↦ mul-zero-same x s t m e z ])
 
 -- ---- the tests against 0
-abbrev pub nought : Float
-nought = fin false 0 (pos 0)
-
-zero-side : (s : Bool) (m : ℕ) (e : ℤ) → m ≡ 0 → lt nought (fin s m e) ≡ false
+zero-side : (s : Bool) (m : ℕ) (e : ℤ) → m ≡ 0 → lt zero64 (fin s m e) ≡ false
 unfolding lt
 zero-side true m e z = refl
 zero-side false m e z = ap (λ (k : ℕ). ltb (0 * down e) k) (zeroed m (up e) 1 z) ∙ ap (λ (k : ℕ). ltb k 0) (zero-mul (down e))
 
-pub same-test : (x y : Float) → Same x y → lt nought x ≡ lt nought y
-same-test nan y h = ap (lt nought) (sym h)
-same-test (inf s) y h = ap (lt nought) (sym h)
+pub same-test : (x y : Float) → Same x y → lt zero64 x ≡ lt zero64 y
+same-test nan y h = ap (lt zero64) (sym h)
+same-test (inf s) y h = ap (lt zero64) (sym h)
 same-test (fin s m e) nan h = absurd h
 same-test (fin s m e) (inf t) h = absurd h
 same-test (fin s m e) (fin t n d) h =
     elim (h .2) [
-      | inl q ↦ λ i. lt nought (fin (q i) (h .0 i) (h .1 i))
+      | inl q ↦ λ i. lt zero64 (fin (q i) (h .0 i) (h .1 i))
       | inr z ↦ zero-side s m e z ∙ sym (zero-side t n d (sym (h .0) ∙ z))
     ]
 
-pub neg-test : (x : Float) → lt nought (neg x) ≡ lt x nought
+pub neg-test : (x : Float) → lt zero64 (neg x) ≡ lt x zero64
 unfolding lt neg
 neg-test nan = refl
 neg-test (inf true) = refl
@@ -329,5 +327,5 @@ neg-test (fin true m e) = ap (λ (k : ℕ). ltb k (m * up e * 1)) (zero-mul (dow
 neg-test (fin false m e) = sym (le-ltb (m * up e * 1) (0 * down e) (subst (λ (k : ℕ). k ≤ m * up e * 1) (sym (zero-mul (down e))) zero-le))
 
 -- y is -x but for a zero's sign: y is above 0 exactly where x is below
-pub opposite : (x y : Float) → Same y (neg x) → lt nought y ≡ lt x nought
+pub opposite : (x y : Float) → Same y (neg x) → lt zero64 y ≡ lt x zero64
 opposite x y h = same-test y (neg x) h ∙ neg-test x

@@ -1,14 +1,15 @@
 -- Part 1 of `sqrt`: which operands are special, and what they give. The rest are the numbers above 0, and `operand` has their value exactly.
 -- Each law names its clause of IEEE 754. Assumes nothing.
 use mathlib.Core.Path.{_≡_, refl, sym, ap, _∙_, subst}
-use Prim.Native.Nat.{ℕ, zero, suc, _+_, _*_, _/_, _^_, _<_, zero-le}
-use native.Mathlib.Nat.{lt-irrefl, zero-lt-suc, zero-mul, mul-assoc, mul-right-comm, mul-div-cancel, mul-pos}
+use Prim.Native.Nat.{ℕ, zero, suc, _+_, _*_, _/_, _%_, _^_, _≤_, _<_, zero-le}
+use native.Mathlib.Nat.{le-trans, le-of-eq, lt-of-lt-of-le, lt-of-not-le, not-le-of-lt, one-mul, mul-le-mul-right, mul-lt-mul-of-pos-right, div-lt-iff-lt-mul, lt-irrefl, zero-lt-suc, zero-mul, mul-assoc, mul-right-comm, mul-div-cancel, mul-pos}
 use native.Mathlib.Omega.{arith}
-use mathlib.Core.Bool.{Bool, true, false, true≢false}
+use mathlib.Core.Bool.{Bool, true, false, _&&_, true≢false}
 use lib.IntN.{ℤ}
-use lib.Dec.{T, ltb}
+use lib.Dec.{T, leb, ltb, eqb, ltb→lt, lit≤}
+use lib.Pow.{pow-pos}
 use lib.Ieee.{Float, nan, inf, fin, binary64, up, down, lt, fits}
-use lib.Ieee.Fits.{up-pos, down-pos}
+use lib.Ieee.Fits.{up-pos, down-pos, and-r}
 use lib.Ieee.Exact.{HasValue}
 use borrow.Author.Tests.{lt-ltb, le-ltb}
 use Rattle.geometry.specs.Float.{zero64}
@@ -55,10 +56,20 @@ number-above m e =
     lt-ltb (0 * 1 * down e) (suc m * up e * 1)
     (subst (λ (z : ℕ). z < suc m * up e * 1) (sym (zero-mul (down e))) (mul-pos (mul-pos (zero-lt-suc m) (up-pos e)) (zero-lt-suc 0)))
 
+-- the number of a value that binary64 holds is below 2 ^ 1024, in units
+pub number-small : (m : ℕ) (e : ℤ) → T (fits binary64 (fin false (suc m) e)) → suc m * up e * 2 ^ 2148 / down e < 4 ^ 1586
+unfolding fits
+number-small m e h =
+    let l : suc m * up e < 2 ^ 1024 * down e = ltb→lt (suc m * up e) (2 ^ 1024 * down e) (and-r (eqb (suc m % 2) 1 && ltb (suc m) (2 ^ 53) && leb (down e) (2 ^ 1074)) (ltb (suc m * up e) (2 ^ 1024 * down e)) h) in
+    div-lt-iff-lt-mul (down-pos e) .1
+    (lt-of-lt-of-le (mul-lt-mul-of-pos-right l (pow-pos 2148)) (le-trans (le-of-eq (mul-right-comm (2 ^ 1024) (down e) (2 ^ 2148))) (mul-le-mul-right (down e) (lit≤ {m = 2 ^ 1024 * 2 ^ 2148} {n = 4 ^ 1586} tt))))
+
 -- an operand is a number only where x is above 0, and then that number is the value of x in units of 2 ^ -2148, exactly
 pub record IsNumber (x : Float) (n : ℕ) : Type 0 where
   pub above : lt zero64 x ≡ true
   pub value : HasValue x false n (2 ^ 2148)
+  pub least : 2 ^ 1074 ≤ n
+  pub most : n < 4 ^ 1586
 
 -- the number of a value of A units of 2 ^ -1074
 pub number-at : (x : Float) (A : ℕ) → 0 < A → HasValue x false A (2 ^ 1074) → operand x ≡ number (A * 2 ^ 1074)
@@ -87,7 +98,15 @@ number-is (fin false (suc m) e) n f h =
     let x : suc m * up e * 2 ^ 1074 ≡ A * down e = units-exact false (suc m) e f in
     let y : suc m * up e * 2 ^ 2148 ≡ A * 2 ^ 1074 * down e = sym (mul-assoc (suc m * up e) (2 ^ 1074) (2 ^ 1074)) ∙ ap (λ (z : ℕ). z * 2 ^ 1074) x ∙ mul-right-comm A (down e) (2 ^ 1074) in
     let z : A * 2 ^ 1074 ≡ n = sym (ap (λ (w : ℕ). w / down e) y ∙ mul-div-cancel (A * 2 ^ 1074) (down-pos e)) ∙ same h in
-    record { above = number-above m e; value = (refl, y ∙ ap (λ (w : ℕ). w * down e) z) }
+    record {
+      above = number-above m e;
+      value = (refl, y ∙ ap (λ (w : ℕ). w * down e) z);
+      least = subst (λ (w : ℕ). 2 ^ 1074 ≤ w) z (some A (2 ^ 1074) (lt-of-not-le (λ (g : A ≤ 0). not-le-of-lt (mul-pos (mul-pos (zero-lt-suc m) (up-pos e)) (pow-pos 1074)) (le-trans (le-of-eq x) (le-trans (mul-le-mul-right (down e) g) (le-of-eq (zero-mul (down e))))))));
+      most = subst (λ (w : ℕ). w < 4 ^ 1586) (same h) (number-small m e f);
+    }
   where
     same : {a b : ℕ} → number a ≡ number b → a ≡ b
     same p = cc
+
+    some : (a b : ℕ) → 0 < a → b ≤ a * b
+    some a b h = le-trans (le-of-eq (sym (one-mul b))) (mul-le-mul-right b h)

@@ -2,10 +2,10 @@
 -- times the number lies between P times it and P times the next. Assumes nothing.
 use mathlib.Core.Path.{_≡_, subst}
 use Prim.Native.Nat.{ℕ, zero, suc, _+_, _-_, _*_, _/_, _^_, _≤_, _<_}
-use native.Mathlib.Nat.{le-antisymm, le-of-suc-le-suc, lt-of-not-le, lt-of-le-of-lt, not-le-of-lt, mul-le-mul, mul-le-mul-right, mul-lt-mul-of-pos-right, mul-pos, mul-mul-mul-comm, pow-suc, div-lt-iff-lt-mul, zero-lt-suc}
+use native.Mathlib.Nat.{le-antisymm, le-of-suc-le-suc, lt-of-not-le, lt-of-le-of-lt, lt-of-lt-of-le, not-le-of-lt, mul-le-mul, mul-le-mul-right, mul-lt-mul-of-pos-right, mul-pos, mul-mul-mul-comm, pow-suc, div-lt-iff-lt-mul, zero-lt-suc}
 use native.Mathlib.Omega.{arith}
 use mathlib.Core.Bool.{Bool, true, false, not, cond}
-use lib.Dec.{T, leb, leb→le, nleb→lt}
+use lib.Dec.{lit≤, T, leb, leb→le, nleb→lt}
 use Rattle.geometry.specs.Root.{isqrt, Exact, exactRoot}
 use Rattle.geometry.specs.Whole.{IsRoot}
 
@@ -62,6 +62,9 @@ is-root n x h = (within (x .whole * x .whole) (x .remainder) n (h .sum), h .most
   where
     within : (s r n : ℕ) → s + r ≡ n → s ≤ n
     within s r n e = omega arith
+
+pub whole-small : (n : ℕ) → n < 4 ^ 1586 → exactRoot n .whole < 2 ^ 1586
+whole-small n h = square-lt (exactRoot n .whole) (2 ^ 1586) (lt-of-le-of-lt (is-root n (exactRoot n) (exact-root n h) .0) (lt-of-lt-of-le h (lit≤ {m = 4 ^ 1586} {n = 2 ^ 1586 * 2 ^ 1586} tt)))
 
 -- ---- with P * P times the number: r is between s * P and (s + 1) * P
 pub scaled-low : (M P s r : ℕ) → s * s ≤ M → M * (P * P) < (r + 1) * (r + 1) → s * P ≤ r

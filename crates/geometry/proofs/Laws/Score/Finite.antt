@@ -3,7 +3,7 @@
 use mathlib.Core.Path.{_≡_, refl, sym, ap, _∙_}
 use mathlib.Core.Logic.{_⊎_, inl, inr}
 use Prim.Native.Nat.{ℕ, zero, suc, _+_, _-_, _*_, _/_, _^_, _≤_, _<_}
-use native.Mathlib.Nat.{le-trans, le-of-eq, lt-of-lt-of-le, lt-of-le-of-lt, lt-of-not-le, mul-le-mul-right, mul-right-comm, mul-assoc, le-div-iff-mul-le, div-lt-iff-lt-mul, lt-of-mul-lt-mul-right, mul-lt-mul-of-pos-right, zero-mul, mul-pos, not-le-of-lt}
+use native.Mathlib.Nat.{le-trans, le-of-eq, lt-of-le-of-lt, lt-of-not-le, mul-le-mul-right, mul-right-comm, mul-assoc, le-div-iff-mul-le, lt-of-mul-lt-mul-right, zero-mul, mul-pos, not-le-of-lt}
 use native.Mathlib.Decide.{decLe}
 use native.Mathlib.Omega.{arith}
 use mathlib.Core.Bool.{Bool, true, false, not, cond, true≢false}
@@ -15,6 +15,7 @@ use Rattle.geometry.specs.Literals.{e-12}
 use Rattle.geometry.proofs.Laws.Float.Tolerance.{Least, tolerance}
 use Rattle.geometry.specs.Root.{number, operand, exactRoot, rounded, rootOf, sqrt}
 use Rattle.geometry.proofs.Laws.Root.Whole.{exact-root, root-le}
+use Rattle.geometry.proofs.Laws.Root.Special.{number-small}
 use Rattle.geometry.proofs.Laws.Root.Rounding.{halves}
 use Rattle.geometry.specs.Units.{unitsOf, Within, within, NotNegative}
 use Rattle.geometry.proofs.Laws.Float.Units.{units-exact}
@@ -28,7 +29,7 @@ use Rattle.geometry.specs.Float.{_+₆₄_, _-₆₄_, _*₆₄_, zero64
 use Rattle.geometry.specs.Point.{difference, cross, determinant}
 use Rattle.geometry.specs.Score.{R, squaredEdge, squaredEdges, score}
 use Rattle.geometry.proofs.Laws.Score.Near.{Near, minus-near, det-near, edges-near}
-use Rattle.geometry.proofs.Laws.Score.Quality.{sqrt-within, squared-signed, edges-signed, edges-fits, size-within, r-within, score-up, low-enough}
+use Rattle.geometry.proofs.Laws.Score.Quality.{sqrt-within, squared-signed, edges-signed, edges-fits, size-within, r-within, score-up}
 
 -- ---- the root of 2 ^ 440 units or more is 2 ^ 757 units or more
 root-least : (n B : ℕ) → n < 4 ^ 1586 → 2 ^ 757 * 2 ^ 757 ≤ n → Within B (rootOf (number n)) → AtLeast (2 ^ 757) (rootOf (number n))
@@ -49,9 +50,7 @@ sqrt-least (inf t) B f s a w = absurd a
 sqrt-least (fin true m e) B f s a w = absurd (true≢false s)
 sqrt-least (fin false zero e) B f s a w = absurd (not-le-of-lt (mul-pos (pow-pos 440) (down-pos e)) (le-trans a (le-of-eq (ap (λ (z : ℕ). z * 2 ^ 1074) (zero-mul (up e)) ∙ zero-mul (2 ^ 1074)))))
 sqrt-least (fin false (suc m) e) B f s a w =
-    root-least (suc m * up e * 2 ^ 2148 / down e) B
-    (div-lt-iff-lt-mul (down-pos e) .1
-    (lt-of-lt-of-le (mul-lt-mul-of-pos-right (low-enough m e f) (pow-pos 2148)) (le-trans (le-of-eq (mul-right-comm (2 ^ 1024) (down e) (2 ^ 2148))) (mul-le-mul-right (down e) (lit≤ {m = 2 ^ 1024 * 2 ^ 2148} {n = 4 ^ 1586} tt)))))
+    root-least (suc m * up e * 2 ^ 2148 / down e) B (number-small m e f)
     (le-div-iff-mul-le (down-pos e) .1
     (le-trans (mul-le-mul-right (down e) (lit≤ {m = 2 ^ 757 * 2 ^ 757} {n = 2 ^ 440 * 2 ^ 1074} tt))
     (le-trans (le-of-eq (mul-right-comm (2 ^ 440) (2 ^ 1074) (down e))) (le-trans (mul-le-mul-right (2 ^ 1074) a) (le-of-eq (mul-assoc (suc m * up e) (2 ^ 1074) (2 ^ 1074))))))) w

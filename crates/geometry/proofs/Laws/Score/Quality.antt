@@ -1,17 +1,18 @@
 -- The score of a tetrahedron with points within 2 ^ 20 is no NaN and not below 0. Assumes nothing.
 use mathlib.Core.Path.{_≡_, refl, sym, ap, _∙_}
-use Prim.Native.Nat.{ℕ, zero, suc, _+_, _-_, _*_, _/_, _%_, _^_, _≤_, _<_, zero-le}
-use native.Mathlib.Nat.{le-trans, le-of-eq, lt-of-lt-of-le, lt-of-le-of-lt, mul-lt-mul-of-pos-right, mul-le-mul-right, mul-right-comm, div-lt-iff-lt-mul, zero-lt-suc, zero-mul, mul-pos, le-add-right}
+use Prim.Native.Nat.{ℕ, zero, suc, _+_, _-_, _*_, _/_, _^_, _≤_, _<_, zero-le}
+use native.Mathlib.Nat.{le-trans, le-of-eq, lt-of-lt-of-le, mul-le-mul-right, zero-lt-suc, zero-mul, mul-pos, le-add-right}
 use native.Mathlib.Omega.{arith}
-use mathlib.Core.Bool.{Bool, true, false, not, cond, _&&_, true≢false}
+use mathlib.Core.Bool.{Bool, true, false, not, cond, true≢false}
 use lib.IntN.{ℤ}
-use lib.Dec.{T, leb, ltb, eqb, ltb→lt, lit<, lit≤}
+use lib.Dec.{T, ltb, eqb, lit<, lit≤}
 use lib.Pow.{pow-pos}
 use lib.Ieee.{Float, nan, inf, fin, binary64, up, down, neg, lt, eq, div, fits, isNan}
-use lib.Ieee.Fits.{up-pos, down-pos, and-r, add-fits}
+use lib.Ieee.Fits.{up-pos, add-fits}
 use borrow.Author.Tests.{lt-ltb}
 use Rattle.geometry.specs.Root.{number, operand, exactRoot, rounded, rootOf, sqrt}
-use Rattle.geometry.proofs.Laws.Root.Whole.{exact-root, is-root, square-lt}
+use Rattle.geometry.proofs.Laws.Root.Whole.{whole-small}
+use Rattle.geometry.proofs.Laws.Root.Special.{number-small}
 use Rattle.geometry.proofs.Laws.Root.Rounding.{halves, bit-le}
 use Rattle.geometry.specs.Units.{Within}
 use Rattle.geometry.proofs.Laws.Float.Magnitude.{round-within, mul-within, within-neg}
@@ -42,16 +43,12 @@ root-within : (n : ℕ) → n < 4 ^ 1586 → Within (2 ^ 1586) (rootOf (number n
 unfolding rootOf rounded
 root-within n h =
     let x = exactRoot n in
-    let r-lt : x .whole < 2 ^ 1586 = square-lt (x .whole) (2 ^ 1586) (lt-of-le-of-lt (is-root n x (exact-root n h) .0) (lt-of-lt-of-le h (lit≤ {m = 4 ^ 1586} {n = 2 ^ 1586 * 2 ^ 1586} tt))) in
+    let r-lt : x .whole < 2 ^ 1586 = whole-small n h in
     round-within false (halves x) (2 ^ 1075) 1586 (pow-pos 1075) (lit< tt)
     (le-trans (mul-le-mul-right (2 ^ 1074) (under (x .whole) (cond (eqb (x .remainder) 0) 0 1) (2 ^ 1586) (bit-le (eqb (x .remainder) 0)) r-lt)) (lit≤ {m = 2 * 2 ^ 1586 * 2 ^ 1074} {n = 2 ^ 1586 * 2 ^ 1075} tt))
   where
     under : (r t p : ℕ) → t ≤ 1 → r < p → 2 * r + t ≤ 2 * p
     under r t p h k = omega arith
-
-pub low-enough : (m : ℕ) (e : ℤ) → T (fits binary64 (fin false (suc m) e)) → suc m * up e < 2 ^ 1024 * down e
-unfolding fits
-low-enough m e h = ltb→lt (suc m * up e) (2 ^ 1024 * down e) (and-r (eqb (suc m % 2) 1 && ltb (suc m) (2 ^ 53) && leb (down e) (2 ^ 1074)) (ltb (suc m * up e) (2 ^ 1024 * down e)) h)
 
 pub sqrt-within : (B : ℕ) (x : Float) → T (fits binary64 x) → Within B x → Signed false x → Within (2 ^ 1586) (sqrt x)
 unfolding sqrt operand rootOf
@@ -59,10 +56,7 @@ sqrt-within B nan f w h = absurd h
 sqrt-within B (inf s) f w h = absurd w
 sqrt-within B (fin true m e) f w h = absurd (true≢false h)
 sqrt-within B (fin false zero e) f w h = le-trans (le-of-eq (ap (λ (z : ℕ). z * 2 ^ 1074) (zero-mul (up e)) ∙ zero-mul (2 ^ 1074))) zero-le
-sqrt-within B (fin false (suc m) e) f w h =
-    root-within (suc m * up e * 2 ^ 2148 / down e)
-    (div-lt-iff-lt-mul (down-pos e) .1
-    (lt-of-lt-of-le (mul-lt-mul-of-pos-right (low-enough m e f) (pow-pos 2148)) (le-trans (le-of-eq (mul-right-comm (2 ^ 1024) (down e) (2 ^ 2148))) (mul-le-mul-right (down e) (lit≤ {m = 2 ^ 1024 * 2 ^ 2148} {n = 4 ^ 1586} tt)))))
+sqrt-within B (fin false (suc m) e) f w h = root-within (suc m * up e * 2 ^ 2148 / down e) (number-small m e f)
 
 -- ---- the sum of squaredEdge squaredEdges has its sign clear
 pub squared-signed : (a b : Point) → Near 20 a → Near 20 b → Signed false (squaredEdge a b)
