@@ -11,5 +11,6 @@ pub mod Areas
 pub mod Keeping
 pub mod Runs
 pub mod Halving
+pub mod Boundary
 pub mod Complex
 pub mod Link

@@ -8,6 +8,7 @@ pub mod Moves
 pub mod Tests
 pub mod Sets
 pub mod Boundary
+pub mod Surface
 pub mod Link
 pub mod Feature
 pub mod FeatureByMasks

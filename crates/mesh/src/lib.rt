@@ -1,6 +1,7 @@
 // Numbers: words and rows in lent areas, elements and their faces, the boundary, intake, links and
 // groups. Every public function is total, and its contract is an equation with a definition of
 // specs/.
+pub mod boundary;
 pub mod element;
 pub mod intake;
 pub mod rows;

@@ -1,0 +1,222 @@
+// The boundary of a list of elements: the faces are listed with their keys, sorted, and the single ones gathered run by run.
+//
+// An area for n elements has 36 n words: the elements, 4 n words; the face rows, 4 n rows of 4 words; as many words of scratch. A face
+// row is a face's key and its number, which is 4 e + k for the face k of the element e. The single faces are gathered as rows of 3
+// words over the face rows that are read already.
+use crate::element::Tet;
+use crate::element::Triple;
+use crate::element::face_key;
+use crate::element::face_parity;
+use crate::element::tet_face;
+use crate::rows::eq_rows;
+use crate::rows::sort_rows;
+use crate::words::clear;
+use crate::words::word;
+ghost use mathlib.Core.Path.{_≡_};
+ghost use Prim.Native.Nat.{_+_, _*_, _≤_};
+ghost use lib.ListN.{length, drop};
+ghost use lib.Seq.{paste};
+ghost use Rattle.mesh.specs.Element.{cornersOf};
+ghost use Rattle.mesh.specs.Rows.{rows, flat};
+ghost use Rattle.mesh.specs.Surface.{triplesOf, areaFits, callFits, Filled, boundaryIn, Call, boundaryCall, faceAt, faceRow, faceRows, kindAt, FaceArea, Gathered};
+
+// How many surface triples, or the number of the refusal.
+pub enum Outcome {
+    Surface(usize),
+    Refused(u32),
+}
+
+// How many surface triples, none on a refusal.
+pub(crate) fn triples_of(o: Outcome) -> usize
+    ensures { λ r. ⌜ r ≡ triplesOf o ⌝ }
+{
+    match o {
+        Outcome::Surface(c) => c,
+        Outcome::Refused(_) => 0,
+    }
+}
+
+// Whether n is at most 16,384 and an area for n elements fits into m words.
+fn area_fits(n: usize, m: usize) -> bool
+    ensures { λ r. ⌜ r ≡ areaFits n m ⌝ }
+{
+    if 16384 < n {
+        return false;
+    }
+    36 * n <= m
+}
+
+// Whether n is at most 16,384 and n elements, 4 n triples and an area for n elements fit into as many words.
+fn call_fits(n: usize, elements: usize, surface: usize, work: usize) -> bool
+    ensures { λ r. ⌜ r ≡ callFits n elements surface work ⌝ }
+{
+    if 16384 < n {
+        return false;
+    }
+    if elements < 4 * n {
+        return false;
+    }
+    if surface < 12 * n {
+        return false;
+    }
+    36 * n <= work
+}
+
+// The first n words of `from` over those of `to`.
+fn copy_over(to: &mut [u32], from: &[u32], n: usize)
+    requires { ⌜ (n ≤ length (now to)) × (n ≤ length (now from)) ⌝ }
+    ensures { λ _. ⌜ now (to .exit) ≡ paste (now (to .entry)) 0 (now (from .entry)) n ⌝ }
+{
+    let mut p = 0;
+    while p < n {
+        to[p] = from[p];
+        p += 1;
+    }
+}
+
+// The face with this number.
+fn face_at(area: &[u32], number: u32) -> Triple
+    ensures { λ r. ⌜ r ≡ faceAt (now (area .entry)) number ⌝ }
+{
+    let first = number / 4 * 4;
+    let p = first as usize;
+    let t = Tet {
+        a: word(area, p),
+        b: word(area, p + 1),
+        c: word(area, p + 2),
+        d: word(area, p + 3),
+    };
+    tet_face(t, number % 4)
+}
+
+// Writes a triple at p.
+fn put_triple(area: &mut [u32], p: usize, f: Triple)
+    requires { ⌜ p + 3 ≤ length (now area) ⌝ }
+    ensures { λ _. ⌜ now (area .exit) ≡ paste (now (area .entry)) p (cornersOf f) 3 ⌝ }
+{
+    area[p] = f.a;
+    area[p + 1] = f.b;
+    area[p + 2] = f.c;
+}
+
+// Writes the row of a face with its number at p.
+fn put_row(area: &mut [u32], p: usize, f: Triple, number: u32)
+    requires { ⌜ p + 4 ≤ length (now area) ⌝ }
+    ensures { λ _. ⌜ now (area .exit) ≡ paste (now (area .entry)) p (faceRow f number) 4 ⌝ }
+{
+    let k = face_key(f);
+    area[p] = k.a;
+    area[p + 1] = k.b;
+    area[p + 2] = k.c;
+    area[p + 3] = number;
+}
+
+// Writes the face rows of n elements behind them.
+fn list_faces(area: &mut [u32], n: usize)
+    requires { ⌜ (n ≤ 16384) × (36 * n ≤ length (now area)) ⌝ }
+    ensures { λ _. ⌜ now (area .exit) ≡ paste (now (area .entry)) (4 * n) (flat (faceRows n (now (area .entry)))) (16 * n) ⌝ }
+{
+    let mut p = 4 * n;
+    let mut left = p;
+    let mut number: u32 = 0;
+    while 0 < left {
+        let f = face_at(area, number);
+        put_row(area, p, f, number);
+        p += 4;
+        left -= 1;
+        number += 1;
+    }
+}
+
+// The run of equal keys that begins at p, where `left` rows are left: 0 a single face, 1 two of opposite parity, 17 two of equal
+// parity, 16 three or more.
+fn run_kind(area: &[u32], p: usize, left: usize) -> u32
+    requires { ⌜ p + 4 * left ≤ length (now area) ⌝ }
+    ensures { λ r. ⌜ r ≡ kindAt (now (area .entry)) (rows 4 left (drop p (now (area .entry)))) ⌝ }
+{
+    if left < 2 {
+        return 0;
+    }
+    if !eq_rows(area, p, area, p + 4, 3) {
+        return 0;
+    }
+    if 2 < left {
+        if eq_rows(area, p, area, p + 8, 3) {
+            return 16;
+        }
+    }
+    let f = face_at(area, area[p + 3]);
+    let g = face_at(area, area[p + 7]);
+    if face_parity(f) == face_parity(g) {
+        return 17;
+    }
+    1
+}
+
+// Gathers the single faces to the front of the rows, and gives how many, or the number of the first bad run.
+fn gather(area: &mut [u32], n: usize) -> Outcome
+    requires { ⌜ FaceArea n (now area) ⌝ }
+    ensures { λ r. ⌜ Gathered n (now (area .entry)) (now (area .exit)) r ⌝ }
+{
+    let mut p = 4 * n;
+    let mut left = p;
+    let mut t = p;
+    let mut count: usize = 0;
+    while 0 < left {
+        let kind = run_kind(area, p, left);
+        if kind == 0 {
+            let f = face_at(area, area[p + 3]);
+            put_triple(area, t, f);
+            t += 3;
+            count += 1;
+            p += 4;
+            left -= 1;
+        } else {
+            if kind != 1 {
+                return Outcome::Refused(kind);
+            }
+            p += 8;
+            left -= 2;
+        }
+    }
+    Outcome::Surface(count)
+}
+
+// The boundary of the n elements at the front of the area. The sorted triples stand behind the elements, and behind them all is 0.
+// 10 where the area is too small or n above 16,384, and then the area is as it was; else 16 or 17 by the first bad key, and
+// then all behind the elements is 0.
+pub fn boundary_in(area: &mut [u32], n: usize) -> Outcome
+    ensures { λ r. ⌜ _≡_ {A = Filled} (record { answer = r; area = now (area .exit) }) (boundaryIn n (now (area .entry))) ⌝ }
+{
+    if !area_fits(n, area.len()) {
+        return Outcome::Refused(10);
+    }
+    let m = 4 * n;
+    list_faces(area, n);
+    sort_rows(&mut area[m..], m, 4);
+    let found = gather(area, n);
+    let c = triples_of(found);
+    sort_rows(&mut area[m..], c, 3);
+    let e = m + 3 * c;
+    clear(&mut area[e..]);
+    found
+}
+
+// The boundary of n elements. Its sorted triples are written to the front of `surface`; on a refusal it stays as it was. 10 where
+// n is above 16,384 or a slice is too short, else 16 or 17 by the first bad key. The work is all zeros afterwards.
+pub fn boundary(elements: &[u32], n: usize, surface: &mut [u32], work: &mut [u32]) -> Outcome
+    ensures { λ r. ⌜ _≡_ {A = Call} (record { answer = r; surface = now (surface .exit); work = now (work .exit) })
+        (boundaryCall n (now (elements .entry)) (now (surface .entry)) (now (work .entry))) ⌝ }
+{
+    if !call_fits(n, elements.len(), surface.len(), work.len()) {
+        clear(work);
+        return Outcome::Refused(10);
+    }
+    let m = 4 * n;
+    copy_over(work, elements, m);
+    let found = boundary_in(work, n);
+    let c = triples_of(found);
+    copy_over(surface, &work[m..], 3 * c);
+    clear(work);
+    found
+}
