@@ -1,13 +1,15 @@
 -- How the exported functions read their arrays. Definitions only.
-use Prim.Native.Nat.{ℕ, zero, suc, _+_}
+use Prim.Native.Nat.{ℕ, zero, suc, _+_, _%_, _^_}
 use mathlib.Core.List.{List}
 use lib.Ieee.{Float, nan}
-use lib.ListN.{getD}
+use lib.ListN.{getD, set}
 use Rattle.geometry.specs.declared.point.Point.{Point}
 use Rattle.geometry.specs.declared.bounds.Bounds.{Bounds}
 use Rattle.geometry.specs.declared.bounds.Options.{Options}
 use Rattle.geometry.specs.declared.field.Field.{Field}
 use Rattle.geometry.specs.declared.field.Field.the-variants.{Level, Plane, Ball}
+use Rattle.mesh.specs.declared.boundary.Outcome.{Outcome}
+use Rattle.mesh.specs.declared.boundary.Outcome.the-variants.{Surface, Refused}
 
 -- the three numbers from place i on
 abbrev pub pointOf : List Float → ℕ → Point
@@ -35,3 +37,8 @@ abbrev pub along : Point → ℕ → Float
 along p zero = p .x
 along p (suc zero) = p .y
 along p (suc (suc k)) = p .z
+
+-- the two words of an answer over those that stood there: 0 and how many triples, as 32 bits, or the number of the refusal and 0
+abbrev pub answerOver : List ℕ → Outcome → List ℕ
+answerOver l (Surface c) = set (set l 0 0) 1 (c % 2 ^ 32)
+answerOver l (Refused n) = set (set l 0 n) 1 0

@@ -5,8 +5,10 @@ use geometry::bounds::Cells;
 use geometry::bounds::Options;
 use geometry::field::Field;
 use geometry::point::Point;
+use mesh::boundary::Outcome;
 ghost use mathlib.Core.Path.{_≡_};
-ghost use Prim.Native.Nat.{_<_, _%_};
+ghost use Prim.Native.Nat.{_<_, _%_, _/_};
+ghost use lib.ListN.{length};
 ghost use lib.Dec.{eqb};
 ghost use Rattle.geometry.specs.Root.{sqrt};
 ghost use Rattle.geometry.specs.Point.{norm, determinant};
@@ -14,7 +16,8 @@ ghost use Rattle.geometry.specs.Score.{squaredEdges, score};
 ghost use Rattle.geometry.specs.Bounds.{spacing, canonicalValue, cap};
 ghost use Rattle.geometry.specs.Rank.{rankValue};
 ghost use Rattle.geometry.specs.Field.{value, gradient};
-ghost use Rattle.export.specs.Arrays.{pointOf, boundsOf, optionsOf, fieldOf, along};
+ghost use Rattle.mesh.specs.Surface.{boundaryCall};
+ghost use Rattle.export.specs.Arrays.{pointOf, boundsOf, optionsOf, fieldOf, along, answerOver};
 
 #[no_mangle]
 pub extern "C" fn h_root(x: f64) -> f64
@@ -176,4 +179,30 @@ pub extern "C" fn h_field_gradient(kind: u32, f: &[f64; 4], p: &[f64; 3], axis: 
         },
     );
     along(g, axis)
+}
+
+// The boundary of as many elements as the slice holds. The answer is 0 and the number of triples, or
+// the table's number and 0.
+#[no_mangle]
+pub extern "C" fn h_boundary(
+    elements: &[u32],
+    surface: &mut [u32],
+    work: &mut [u32],
+    answer: &mut [u32; 2],
+)
+    ensures { λ _. ⌜ (now (surface .exit) ≡ boundaryCall (length (now (elements .entry)) / 4) (now (elements .entry)) (now (surface .entry)) (now (work .entry)) .surface)
+        × (now (work .exit) ≡ boundaryCall (length (now (elements .entry)) / 4) (now (elements .entry)) (now (surface .entry)) (now (work .entry)) .work)
+        × (now (answer .exit) ≡ answerOver (now (answer .entry)) (boundaryCall (length (now (elements .entry)) / 4) (now (elements .entry)) (now (surface .entry)) (now (work .entry)) .answer)) ⌝ }
+{
+    let found = mesh::boundary::boundary(elements, elements.len() / 4, surface, work);
+    match found {
+        Outcome::Surface(c) => {
+            answer[0] = 0;
+            answer[1] = (c % 0x1_0000_0000) as u32;
+        }
+        Outcome::Refused(k) => {
+            answer[0] = k;
+            answer[1] = 0;
+        }
+    }
 }
