@@ -1,5 +1,6 @@
 // Replays stored answers of the Rust: data/units.txt has single functions with their inputs and
 // answers. For each function the program prints how many lines agree and how many differ.
+mod surface;
 mod text;
 mod units;
 
@@ -50,7 +51,15 @@ fn later_name(k: usize) {
     if k == 9 {
         return print(b"gradient");
     }
-    print(b"not replayed")
+    print(b"boundary")
+}
+
+// Whether the function of this kind gives the line's answer.
+fn agrees(bytes: &[u8], at: usize, k: usize) -> bool {
+    if k < 10 {
+        return units::agrees(bytes, at, k);
+    }
+    surface::boundary_agrees(bytes, at)
 }
 
 // How many lines of this kind agree (1) or differ (0).
@@ -60,7 +69,7 @@ fn tally(bytes: &[u8], k: usize, agree: bool) -> u64 {
     while at < bytes.len() {
         if units::kind(bytes, at) == k {
             if n < 0xffff_ffff {
-                if units::agrees(bytes, at, k) == agree {
+                if agrees(bytes, at, k) == agree {
                     n += 1;
                 }
             }
@@ -71,7 +80,7 @@ fn tally(bytes: &[u8], k: usize, agree: bool) -> u64 {
 }
 
 fn report(bytes: &[u8]) {
-    for k in 0..10 {
+    for k in 0..11 {
         name(k);
         count(b": agree ", tally(bytes, k, true));
         count(b", differ ", tally(bytes, k, false));

@@ -11,7 +11,7 @@ use geometry::point::Point;
 ghost use Prim.Native.Nat.{_<_};
 
 // Which function a line names: 0 root, 1 norm, 2 determinant, 3 edges, 4 score, 5 spacing, 6 rank, 7 cap,
-// 8 value, 9 gradient; 10 for a function that is not replayed, 11 for a line without one.
+// 8 value, 9 gradient, 10 boundary; 11 for a function that is not replayed, 12 for a line without one.
 pub(crate) fn kind(text: &[u8], at: usize) -> usize {
     let a = byte(text, at);
     let c = if at < 0x1000_0000 {
@@ -20,16 +20,16 @@ pub(crate) fn kind(text: &[u8], at: usize) -> usize {
         b' '
     };
     if a == b'#' {
-        return 11;
+        return 12;
     }
     if a == b'\n' {
-        return 11;
+        return 12;
     }
     if a == b'r' {
         return if c == b'o' { 0 } else { 6 };
     }
     if a == b'n' {
-        return if c == b'r' { 1 } else { 10 };
+        return if c == b'r' { 1 } else { 11 };
     }
     if a == b's' {
         return if c == b'o' { 4 } else { 5 };
@@ -54,7 +54,10 @@ fn kind_by_letter(a: u8) -> usize {
     if a == b'g' {
         return 9;
     }
-    10
+    if a == b'b' {
+        return 10;
+    }
+    11
 }
 
 // The two zeros are equal, and so are any two NaNs.
