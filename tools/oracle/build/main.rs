@@ -1,5 +1,6 @@
-//! Takes the original from docs/src and makes four crates of it in OUT_DIR: untouched, doc01
-//! (document 01's score and gradient length), and a counted copy of each.
+//! Takes the original from docs/src and makes crates of it in OUT_DIR: untouched, doc01
+//! (document 01's score and gradient length), each of the two replacements alone, and a counted
+//! copy of each of the four.
 mod count;
 mod text;
 mod tree;
@@ -48,14 +49,18 @@ fn main() {
     println!("cargo:rerun-if-changed=build");
     let out = PathBuf::from(std::env::var("OUT_DIR").unwrap());
     let source = tree::Source::read(&docs_src());
-    for (name, doc01, counted) in [
-        ("untouched", false, false),
-        ("doc01", true, false),
-        ("untouched_counted", false, true),
-        ("doc01_counted", true, true),
+    for (name, replaced, counted) in [
+        ("untouched", [false, false], false),
+        ("doc01", [true, true], false),
+        ("score_only", [true, false], false),
+        ("length_only", [false, true], false),
+        ("untouched_counted", [false, false], true),
+        ("doc01_counted", [true, true], true),
+        ("score_only_counted", [true, false], true),
+        ("length_only_counted", [false, true], true),
     ] {
         let folder = out.join(name);
-        tree::write(&source, &folder, doc01, counted);
+        tree::write(&source, &folder, replaced, counted);
         compile(name, &folder, &out);
     }
     println!("cargo:rustc-link-search=crate={}", out.display());

@@ -93,7 +93,7 @@ fn implicit_text(s: &Source) -> String {
     out
 }
 
-fn intersection_text(s: &Source, doc01: bool, sites: Option<&mut Vec<Site>>) -> String {
+fn intersection_text(s: &Source, length: bool, sites: Option<&mut Vec<Site>>) -> String {
     let file = &s.intersection;
     let mut out = String::from("pub mod repair;\nuse super::{Options, ScalarField};\n");
     out += "use crate::{Mesh, Point, Tet, determinant, dot, norm, quality, sub};\n";
@@ -104,7 +104,7 @@ fn intersection_text(s: &Source, doc01: bool, sites: Option<&mut Vec<Site>>) -> 
     out += &item(file, "pub struct QualityDiagnostics {", INTERSECTION);
     out += &item(file, "fn field_gradient(", INTERSECTION);
     let mut text = file.clone();
-    if doc01 {
+    if length {
         let (old, new) = ("g[0].hypot(g[1]).hypot(g[2])", "dot(*g, *g).sqrt()");
         text = replace(&text, old, new, INTERSECTION);
     }
@@ -125,9 +125,9 @@ fn counted(text: String, head: &str, file: &str, sites: &mut Vec<Site>) -> Strin
     format!("{}{body}{}", &text[..open], &text[close..])
 }
 
-fn repair_text(s: &Source, doc01: bool, sites: Option<&mut Vec<Site>>) -> String {
+fn repair_text(s: &Source, score: bool, sites: Option<&mut Vec<Site>>) -> String {
     let mut text = s.repair.clone();
-    if doc01 {
+    if score {
         let q = "quality(t.map(|i| points[i])).powf(1.5)";
         text = replace(&text, q, "crate::score(t.map(|i| points[i]))", REPAIR);
         text = replace(&text, "quality(tet).powf(1.5)", "crate::score(tet)", REPAIR);
@@ -143,14 +143,14 @@ fn repair_text(s: &Source, doc01: bool, sites: Option<&mut Vec<Site>>) -> String
         ] {
             text = counted(text, head, REPAIR, sites);
         }
-        text = remember_scores(&text, doc01);
+        text = remember_scores(&text, score);
     }
     text + "\npub mod access;\n"
 }
 
 /// Scores go through `counts::value`, so that a trace can show them.
-fn remember_scores(text: &str, doc01: bool) -> String {
-    let (q, tet) = if doc01 {
+fn remember_scores(text: &str, score: bool) -> String {
+    let (q, tet) = if score {
         ("crate::score(t.map(|i| points[i]))", "crate::score(tet)")
     } else {
         ("quality(t.map(|i| points[i])).powf(1.5)", "quality(tet).powf(1.5)")
@@ -178,12 +178,13 @@ fn site_table(sites: &[Site]) -> String {
     out + "];\n"
 }
 
-pub fn write(s: &Source, folder: &Path, doc01: bool, counted: bool) {
+/// `score` and `length`: which of document 01's two replacements are made.
+pub fn write(s: &Source, folder: &Path, [score, length]: [bool; 2], counted: bool) {
     let mut sites = Vec::new();
-    let repair = repair_text(s, doc01, counted.then_some(&mut sites));
-    let intersection = intersection_text(s, doc01, counted.then_some(&mut sites));
+    let repair = repair_text(s, score, counted.then_some(&mut sites));
+    let intersection = intersection_text(s, length, counted.then_some(&mut sites));
     let mut lib = lib_text(s);
-    if doc01 {
+    if score {
         lib += SCORE;
     }
     if counted {

@@ -19,23 +19,28 @@ unsafe extern "C" {
     safe fn h_field_gradient(kind: u32, f: &[f64; 4], p: &[f64; 3], axis: u32) -> f64;
 }
 
-#[derive(Clone, Copy, Debug)]
-enum Value {
+#[derive(Debug)]
+pub enum Value {
     Float(f64),
     Point(Point),
     Number(u64),
+    Words(Vec<u32>),
 }
 
 impl Value {
-    fn same(self, other: Value) -> bool {
+    fn same(&self, other: &Value) -> bool {
         match (self, other) {
-            (Value::Float(x), Value::Float(y)) => same_float(x, y),
+            (Value::Float(x), Value::Float(y)) => same_float(*x, *y),
             (Value::Point(p), Value::Point(q)) => (0..3).all(|a| same_float(p[a], q[a])),
             (Value::Number(m), Value::Number(n)) => m == n,
+            (Value::Words(v), Value::Words(w)) => v == w,
             _ => false,
         }
     }
 }
+
+/// A side of the comparison.
+type Side = fn(&Unit) -> Value;
 
 /// The functions compared, by the names of their units.
 const COMPARED: [&str; 10] = [
@@ -97,26 +102,41 @@ fn judge(unit: &Unit) -> Value {
 }
 
 /// Compare one function; the first differences are printed.
-fn compare_one(name: &str, count: u64, r: &mut Random) -> u64 {
+fn compare_one(name: &str, [port, judge]: [Side; 2], count: u64, r: &mut Random) -> u64 {
     let mut different = 0;
     for _ in 0..count {
         let unit = units::unit(name, r);
         let given = port(&unit);
-        if given.same(judge(&unit)) {
+        if given.same(&judge(&unit)) {
             continue;
         }
         different += 1;
         if different <= 3 {
-            print!("{}  port: {given:?}\n", unit.line(&DOC01));
+            println!("{}  port: {given:?}", unit.line(&DOC01));
         }
     }
     println!("{name:12} {count} inputs, {different} different");
     different
 }
 
+/// Every function that is linked, with its two sides.
+fn compared() -> Vec<(&'static str, [Side; 2])> {
+    let sides: [Side; 2] = [port, judge];
+    let all = COMPARED.map(|name| (name, sides)).to_vec();
+    let sides: [Side; 2] = [crate::bridge_boundary::port, crate::bridge_boundary::judge];
+    let all = [all, crate::bridge_boundary::COMPARED.map(|name| (name, sides)).to_vec()].concat();
+    #[cfg(feature = "bridge-mesh")]
+    let all = {
+        let sides: [Side; 2] = [crate::bridge_mesh::port, crate::bridge_mesh::judge];
+        [all, crate::bridge_mesh::COMPARED.map(|name| (name, sides)).to_vec()].concat()
+    };
+    all
+}
+
 pub fn report(count: u64, seed: u64) -> Result<(), String> {
     let mut r = Random::new(seed);
-    let different: u64 = COMPARED.iter().map(|name| compare_one(name, count, &mut r)).sum();
-    println!("{} inputs in all, {different} different", count * COMPARED.len() as u64);
+    let all = compared();
+    let different: u64 = all.iter().map(|(name, s)| compare_one(name, *s, count, &mut r)).sum();
+    println!("{} inputs in all, {different} different", count * all.len() as u64);
     if different == 0 { Ok(()) } else { Err("the port differs from the original".to_string()) }
 }

@@ -3,13 +3,19 @@ use crate::case::Case;
 use crate::coverage::scale_of;
 use crate::make;
 use crate::mesh::{Answer, Call, Mesh};
-use crate::original::{Build, DOC01, DOC01_COUNTED, UNTOUCHED, UNTOUCHED_COUNTED};
+use crate::original::{
+    Build, DOC01, DOC01_COUNTED, LENGTH_ONLY, LENGTH_ONLY_COUNTED, SCORE_ONLY, SCORE_ONLY_COUNTED,
+    UNTOUCHED, UNTOUCHED_COUNTED, determinant,
+};
 use crate::shell;
 use doc01_counted::counts::{SITES, Step};
 use std::collections::BTreeMap;
 
-/// How a differing call is explained: the site that parts the builds, or none.
-type Reason = (&'static str, u32, &'static str);
+/// How a differing call is explained: the replacement that alone makes the difference, and the
+/// first decision on which it parts from untouched (function, line, text).
+type Reason = (&'static str, &'static str, u32, &'static str);
+
+const CAUSES: [&str; 4] = ["together", "score", "length", "each"];
 
 #[derive(Default)]
 struct Found {
@@ -31,38 +37,35 @@ impl Found {
     }
 }
 
-fn doc01_trace(mesh: &Mesh, call: &Call) -> Vec<Step> {
-    doc01_counted::counts::start_trace();
-    shell::run(&DOC01_COUNTED, &mut mesh.clone(), call);
-    doc01_counted::counts::end_trace()
+macro_rules! trace {
+    ($counts:ident, $build:expr, $mesh:expr, $call:expr) => {{
+        $counts::counts::start_trace();
+        shell::run($build, &mut $mesh.clone(), $call);
+        $counts::counts::end_trace()
+    }};
 }
 
-fn untouched_trace(mesh: &Mesh, call: &Call) -> Vec<Step> {
-    untouched_counted::counts::start_trace();
-    shell::run(&UNTOUCHED_COUNTED, &mut mesh.clone(), call);
-    untouched_counted::counts::end_trace()
-}
-
-/// The first decision on which the two traces part, with the last scores before it.
-fn parting(mesh: &Mesh, call: &Call) -> (Reason, String) {
-    let (a, b) = (doc01_trace(mesh, call), untouched_trace(mesh, call));
-    let at = a.iter().zip(&b).position(|(x, y)| (x.0, x.1) != (y.0, y.1));
-    match at {
-        Some(i) => {
-            let (function, line, text, _) = SITES[a[i].0 as usize];
-            let values = format!(
-                "doc01 {} after score {:e} ({:016X}), untouched {} after {:e} ({:016X})",
-                a[i].1,
-                a[i].2,
-                a[i].2.to_bits(),
-                b[i].1,
-                b[i].2,
-                b[i].2.to_bits()
-            );
-            ((function, line, text), values)
-        }
-        None => ((call.pass.name(), 0, "same decisions, values differ"), String::new()),
+/// The decisions of the build with the replacement that makes the difference, and no other.
+fn replaced_trace(mesh: &Mesh, call: &Call, cause: usize) -> Vec<Step> {
+    match cause {
+        1 => trace!(score_only_counted, &SCORE_ONLY_COUNTED, mesh, call),
+        2 => trace!(length_only_counted, &LENGTH_ONLY_COUNTED, mesh, call),
+        _ => trace!(doc01_counted, &DOC01_COUNTED, mesh, call),
     }
+}
+
+/// The first decision on which that build and untouched part, with the last scores before it.
+fn parting(mesh: &Mesh, call: &Call, cause: usize) -> (Reason, String) {
+    let a = replaced_trace(mesh, call, cause);
+    let b: Vec<Step> = trace!(untouched_counted, &UNTOUCHED_COUNTED, mesh, call);
+    let at = a.iter().zip(&b).position(|(x, y)| (x.0, x.1) != (y.0, y.1));
+    let Some(i) = at else {
+        return ((CAUSES[cause], call.pass.name(), 0, "no decision parts"), String::new());
+    };
+    let (function, line, text, _) = SITES[a[i].0 as usize];
+    let show = |s: &Step| format!("{} after score {:e} ({:016X})", s.1, s.2, s.2.to_bits());
+    let values = format!("replaced {}, untouched {}", show(&a[i]), show(&b[i]));
+    ((CAUSES[cause], function, line, text), values)
 }
 
 /// A differing call: its place in the case, the mesh before it, and how far the results part.
@@ -93,6 +96,20 @@ fn effect(call: &Call, answers: [Answer; 2], a: &Mesh, b: &Mesh) -> Effect {
     Effect::Coordinates(far.fold(0., f64::max) / extent)
 }
 
+/// Which replacement alone makes the call differ from untouched: 1 score, 2 length, 3 both.
+fn cause(before: &Mesh, call: &Call) -> usize {
+    let result = |build: &Build| {
+        let mut mesh = before.clone();
+        (shell::run(build, &mut mesh, call), mesh)
+    };
+    let plain = result(&UNTOUCHED);
+    let differs = |build: &Build| {
+        let (answer, mesh) = result(build);
+        answer != plain.0 || !mesh.same(&plain.1)
+    };
+    usize::from(differs(&SCORE_ONLY)) + 2 * usize::from(differs(&LENGTH_ONLY))
+}
+
 /// The first call of a case on which the builds differ.
 fn first_difference(case: &Case) -> Option<Parted> {
     let mut mesh = case.mesh.clone();
@@ -110,14 +127,20 @@ fn first_difference(case: &Case) -> Option<Parted> {
 }
 
 fn print(found: &BTreeMap<Reason, Found>) {
-    for ((function, line, text), f) in found {
-        println!("{:6} {function} {line} | {text}", f.count);
+    for ((cause, function, line, text), f) in found {
+        println!("{cause:8} {:6} {function} {line} | {text}", f.count);
         println!(
             "       answers differ {}, elements or surface {}, else coordinates by at most {:.1e}",
             f.answers, f.numbers, f.farthest
         );
         println!("       first: {}", f.example);
     }
+}
+
+/// The smallest determinant of a mesh that passed intake.
+fn smallest(mesh: &Mesh) -> f64 {
+    let det = |i| determinant(mesh.element(i).map(|v| mesh.point(v)));
+    (0..mesh.sizes.elements).map(det).fold(f64::INFINITY, f64::min)
 }
 
 /// `all`: a line for each difference.
@@ -128,10 +151,15 @@ pub fn report(count: u64, seed: u64, all: bool) -> Result<(), String> {
         let case = make::case(seed + i, scale_of(i));
         calls += case.calls.len();
         let Some(parted) = first_difference(&case) else { continue };
-        let (reason, values) = parting(&parted.before, &case.calls[parted.call]);
+        let call = &case.calls[parted.call];
+        let (reason, values) = parting(&parted.before, call, cause(&parted.before, call));
         let example = format!("{} call {}: {values}", case.name, parted.call);
         if all {
-            println!("{} {} | {} | {example}", reason.0, reason.1, reason.2);
+            let det = smallest(&parted.before);
+            println!(
+                "{} {} {} | {} | least det {det:e} | {example}",
+                reason.0, reason.1, reason.2, reason.3
+            );
         }
         let entry = found.entry(reason).or_insert(Found { example, ..Found::default() });
         entry.add(&parted.effect);

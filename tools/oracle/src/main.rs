@@ -1,12 +1,20 @@
 //! The original Rust as judge of the port. See docs/COMPARISON.md for what each command does.
 extern crate doc01;
 extern crate doc01_counted;
+extern crate length_only;
+extern crate length_only_counted;
+extern crate score_only;
+extern crate score_only_counted;
 extern crate untouched;
 extern crate untouched_counted;
 
 mod agree;
 #[cfg(feature = "bridge")]
 mod bridge;
+#[cfg(feature = "bridge")]
+mod bridge_boundary;
+#[cfg(feature = "bridge-mesh")]
+mod bridge_mesh;
 mod case;
 mod coverage;
 mod differ;

@@ -26,9 +26,14 @@ macro_rules! build {
 pub static DOC01: Build = build!(doc01);
 /// The original as published.
 pub static UNTOUCHED: Build = build!(untouched);
-/// The same two with counted branches.
+/// One of document 01's two replacements alone.
+pub static SCORE_ONLY: Build = build!(score_only);
+pub static LENGTH_ONLY: Build = build!(length_only);
+/// The four with counted branches.
 pub static DOC01_COUNTED: Build = build!(doc01_counted);
 pub static UNTOUCHED_COUNTED: Build = build!(untouched_counted);
+pub static SCORE_ONLY_COUNTED: Build = build!(score_only_counted);
+pub static LENGTH_ONLY_COUNTED: Build = build!(length_only_counted);
 
 pub fn named(name: &str) -> Option<&'static Build> {
     [&DOC01, &UNTOUCHED].into_iter().find(|b| b.name == name)

@@ -67,7 +67,7 @@ same-neg (fin s m e) (inf t) h = absurd h
 same-neg (fin s m e) (fin t n d) h = (h .0, h .1, elim (h .2) [ inl p ↦ inl (ap not p) | inr z ↦ inr z ])
 
 -- ---- 0 / c rounds to a zero, whose sign does not count
-zero-of : (m u c d : ℕ) → 0 < u → 0 < c → m * u * c ≡ 0 * d → m ≡ 0
+pub zero-of : (m u c d : ℕ) → 0 < u → 0 < c → m * u * c ≡ 0 * d → m ≡ 0
 zero-of zero u c d U C h = refl
 zero-of (suc m) u c d U C h = absurd (lt-irrefl 0 (subst (λ (z : ℕ). 0 < z) (h ∙ zero-mul d) (mul-pos (mul-pos (zero-lt-suc m) U) C)))
 
@@ -98,7 +98,7 @@ both-less a b h k = not-le-of-lt (ltb-true a b h) (le-of-lt (ltb-true b a k))
 neither : (a b : ℕ) → ltb a b ≡ false → ltb b a ≡ false → a ≡ b
 neither a b h k = le-antisymm (ltb-false b a k) (ltb-false a b h)
 
-none-left : (a b : ℕ) → a ≡ b → a - b ≡ 0
+pub none-left : (a b : ℕ) → a ≡ b → a - b ≡ 0
 none-left a b e = omega arith
 
 swap-tf : (a b c : ℕ) → sum binary64 true a false b c ≡ sum binary64 false b true a c
@@ -204,7 +204,7 @@ sum-zero false a true b c C z = go (ltb a b) refl
     go true p = same-path (ap (λ (w : ℕ). round binary64 true w c) (all a b z))
     go false p = let k = nil a b z (ltb-false a b p) in subst (λ (w : ℕ). Same (round binary64 false w c) (round binary64 true b c)) (sym (k .0)) (round-any false true b c C (k .1))
 
-zeroed : (m u d : ℕ) → m ≡ 0 → m * u * d ≡ 0
+pub zeroed : (m u d : ℕ) → m ≡ 0 → m * u * d ≡ 0
 zeroed m u d e = ap (λ (z : ℕ). z * u * d) e ∙ ap (λ (z : ℕ). z * d) (zero-mul u) ∙ zero-mul d
 
 same-add-zero : (s t : Bool) (m : ℕ) (e : ℤ) (y : Float) → m ≡ 0 → Same (add binary64 (fin s m e) y) (add binary64 (fin t m e) y)

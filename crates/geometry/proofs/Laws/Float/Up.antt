@@ -13,6 +13,7 @@ use lib.Ieee.Exact.{HasValue, round-exact}
 use lib.Ieee.Scale.{finite}
 use borrow.Author.Tests.{ltb-true, ltb-false, lt-ltb, le-ltb}
 use Rattle.geometry.specs.Units.{Within, NotNegative}
+use Rattle.geometry.proofs.Laws.Float.Mirror.{zero-of, zeroed}
 use Rattle.geometry.proofs.Laws.Float.Sign.{Signed, round-signed}
 
 abbrev pub Up : Float → Type 0
@@ -26,9 +27,6 @@ unfolding isNan
 up-not-nan nan h = absurd h
 up-not-nan (inf s) h = tt
 up-not-nan (fin s m e) h = tt
-
-zeroed : (m u d : ℕ) → m ≡ 0 → m * u * d ≡ 0
-zeroed m u d e = ap (λ (z : ℕ). z * u * d) e ∙ ap (λ (z : ℕ). z * d) (zero-mul u) ∙ zero-mul d
 
 pub up-not-below : (x : Float) → Up x → lt x (fin false 0 (pos 0)) ≡ false
 unfolding lt
@@ -51,10 +49,6 @@ signed-up (fin true m e) h = absurd (true≢false h)
 signed-up (fin false m e) h = tt
 
 -- ---- `round`
-zero-of : (m u c d : ℕ) → 0 < u → 0 < c → m * u * c ≡ 0 * d → m ≡ 0
-zero-of zero u c d U C h = refl
-zero-of (suc m) u c d U C h = absurd (lt-irrefl 0 (subst (λ (z : ℕ). 0 < z) (h ∙ zero-mul d) (mul-pos (mul-pos (zero-lt-suc m) U) C)))
-
 of-zero : (v : Float) (s : Bool) (c : ℕ) → 0 < c → HasValue v s 0 c → Up v
 of-zero nan s c C h = absurd h
 of-zero (inf t) s c C h = absurd h

@@ -14,6 +14,7 @@ use borrow.Author.Tests.{ltb-true, lt-ltb, le-ltb}
 use Rattle.geometry.specs.Float.{one64}
 use Rattle.geometry.specs.Units.{Within, within}
 use Rattle.geometry.specs.Rank.{nearestAway, e11, share, rankValue}
+use Rattle.geometry.proofs.Laws.Float.Mirror.{none-left}
 use Rattle.geometry.proofs.Laws.Float.Grid.{grid-mono, grid-exact}
 use Rattle.geometry.proofs.Laws.Float.Magnitude.{less-by, within-finite}
 use Rattle.geometry.proofs.Laws.Float.Sign.{Signed, round-signed}
@@ -77,9 +78,6 @@ away-down (fin true m e) h = refl
 away-down (fin false m e) h = sym (not-above (fin false m e) (le-ltb (0 * down e) (m * up e * 1) (le-of-eq (ap (λ (z : ℕ). z * up e * 1) h ∙ ap (λ (z : ℕ). z * 1) (zero-mul (up e)) ∙ sym (zero-mul (down e))))))
 
 -- ---- x - lo for an x up to lo, and hi - lo
-none-left : (a b : ℕ) → a ≡ b → a - b ≡ 0
-none-left a b p = omega arith
-
 sum-down : (s t : Bool) (a b c : ℕ) → 0 < c → T (below s a t b || level s a t b) → Down (sum binary64 s a (not t) b c)
 unfolding sum
 sum-down false true a b c C h = zero-down false (a + b) c C (nil a b (eqb→eq a b (and-l (eqb a b) (eqb a 0) h)) (eqb→eq a 0 (and-r (eqb a b) (eqb a 0) h)))

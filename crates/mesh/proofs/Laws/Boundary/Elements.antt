@@ -12,38 +12,17 @@ use borrow.Author.Tests.{eqb-false, eq-eqb, ne-eqb, lt-ltb}
 use Rattle.mesh.specs.declared.element.Tet.{Tet}
 use Rattle.mesh.specs.declared.element.Triple.{Triple}
 use Rattle.mesh.specs.Complex.{mem, keep, Nodup}
-use Rattle.mesh.specs.Element.{triple, facesOf, verticesOf, cornersOf, sortFirst, sortLast, keyOf}
+use Rattle.mesh.specs.Element.{triple, facesOf, verticesOf, cornersOf, keyOf}
 use Rattle.mesh.specs.Boundary.{sameTriple, allFaces, withKey, boundaryOf}
 use Rattle.mesh.specs.Surface.{hasKey, AllDistinct}
 use Rattle.mesh.proofs.Laws.Bools.{clash, or-swap}
+use Rattle.mesh.proofs.Laws.Link.Keys.{key-mem}
 use Rattle.mesh.proofs.Laws.Boundary.Order.{same-sound}
 use Rattle.mesh.proofs.Laws.Boundary.Meaning.{surface-once, surface-else}
 
--- ---- a key has the vertices of its face
-
-first-mem : (x : ℕ) (f : Triple) → mem x (cornersOf (sortFirst f)) ≡ mem x (cornersOf f)
-unfolding sortFirst
-first-mem x f = go (ltb (f .b) (f .a))
-  where
-    go : (t : Bool) → mem x (cornersOf (cond t (triple (f .b) (f .a) (f .c)) f)) ≡ mem x (cornersOf f)
-    go true = or-swap (eqb x (f .b)) (eqb x (f .a)) (eqb x (f .c) || false)
-    go false = refl
-
-last-mem : (x : ℕ) (f : Triple) → mem x (cornersOf (sortLast f)) ≡ mem x (cornersOf f)
-unfolding sortLast
-last-mem x f = go (ltb (f .c) (f .b))
-  where
-    go : (t : Bool) → mem x (cornersOf (cond t (triple (f .a) (f .c) (f .b)) f)) ≡ mem x (cornersOf f)
-    go true = ap (λ (u : Bool). eqb x (f .a) || u) (or-swap (eqb x (f .c)) (eqb x (f .b)) false)
-    go false = refl
-
-key-mem : (x : ℕ) (f : Triple) → mem x (cornersOf (keyOf f)) ≡ mem x (cornersOf f)
-unfolding keyOf
-key-mem x f = first-mem x (sortLast (sortFirst f)) ∙ last-mem x (sortFirst f) ∙ first-mem x f
-
 -- a vertex that one face has and another has not keeps their keys apart
 keys-apart : (x : ℕ) (f g : Triple) → mem x (cornersOf f) ≡ true → mem x (cornersOf g) ≡ false → keyOf f ≡ keyOf g → ⊥
-keys-apart x f g p q e = clash (mem x (cornersOf g)) (sym (key-mem x g) ∙ ap (λ (u : Triple). mem x (cornersOf u)) (sym e) ∙ key-mem x f ∙ p) q
+keys-apart x f g p q e = clash (mem x (cornersOf g)) (sym (key-mem g x) ∙ ap (λ (u : Triple). mem x (cornersOf u)) (sym e) ∙ key-mem f x ∙ p) q
 
 in-first : (x y z : ℕ) → mem x (x ∷ y ∷ z ∷ []) ≡ true
 in-first x y z = rw (eq-eqb x x refl)

@@ -10,10 +10,7 @@ use borrow.Author.Tests.{eqb-true, eq-eqb, ne-eqb}
 use lib.Dec.{eqb}
 use lib.ListN.{length}
 use Rattle.mesh.specs.Complex.{mem, sub, within, keep, Nodup, Sub}
-
-pub split : (b : Bool) → (b ≡ true) ⊎ (b ≡ false)
-split true = inl refl
-split false = inr refl
+pub use Rattle.mesh.proofs.Laws.Bools.{split}
 
 pub clash : {b : Bool} → b ≡ true → b ≡ false → ⊥
 clash p q = true≢false (sym p ∙ q)

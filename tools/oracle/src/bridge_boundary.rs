@@ -1,0 +1,72 @@
+//! The port's boundary from the export crate.
+use crate::bridge::Value;
+use crate::original;
+use crate::unit::Unit;
+
+pub const COMPARED: [&str; 1] = ["boundary"];
+
+#[rustfmt::skip]
+unsafe extern "C" {
+    /// Answer: 16 or 17 or 0, number of triples.
+    fn h_boundary(
+        elements: *const u32, elements_len: usize,
+        surface: *mut u32, surface_len: usize,
+        work: *mut u32, work_len: usize,
+        answer: &mut [u32; 2],
+    );
+}
+
+pub fn flat<const N: usize>(rows: &[[usize; N]]) -> Vec<u32> {
+    rows.iter().flatten().map(|&v| v as u32).collect()
+}
+
+pub fn work(elements: usize, vertices: usize) -> Vec<u32> {
+    vec![0; 256 * elements + 32 * vertices + 1024]
+}
+
+/// What stands in the surface before the call; places past the boundary keep it.
+const RUBBISH: u32 = 0x5A5A_5A5A;
+
+fn port_boundary(tets: &[[usize; 4]]) -> Value {
+    let elements = flat(tets);
+    let mut surface = vec![RUBBISH; 12 * tets.len() + 3];
+    let mut area = work(tets.len(), 0);
+    let mut answer = [0; 2];
+    // Each pointer is that of a live buffer of the length beside it.
+    unsafe {
+        let (s, w) = (surface.as_mut_ptr(), area.as_mut_ptr());
+        h_boundary(elements.as_ptr(), elements.len(), s, surface.len(), w, area.len(), &mut answer);
+    }
+    let triples = if answer[0] == 0 { answer[1] } else { 0 };
+    Value::Words([vec![answer[0], triples], surface].concat())
+}
+
+fn judge_boundary(tets: &[[usize; 4]]) -> Value {
+    let mut surface = vec![RUBBISH; 12 * tets.len() + 3];
+    let head = match original::boundary(tets) {
+        Ok(triples) => {
+            let words = flat(&triples);
+            surface[..words.len()].copy_from_slice(&words);
+            [0, triples.len() as u32]
+        }
+        Err(message) if message.starts_with("nonmanifold") => [16, 0],
+        Err(_) => [17, 0],
+    };
+    Value::Words([head.to_vec(), surface].concat())
+}
+
+/// What the port gives.
+pub fn port(unit: &Unit) -> Value {
+    match unit {
+        Unit::Boundary(tets) => port_boundary(tets),
+        _ => panic!("{} is not compared here", unit.name()),
+    }
+}
+
+/// What the original gives.
+pub fn judge(unit: &Unit) -> Value {
+    match unit {
+        Unit::Boundary(tets) => judge_boundary(tets),
+        _ => panic!("{} is not compared here", unit.name()),
+    }
+}

@@ -1,0 +1,96 @@
+//! The port's link test, nonmanifold test and projection from the export crate.
+use crate::bridge::Value;
+use crate::bridge_boundary::{flat, work};
+use crate::original::{self, DOC01, Point};
+use crate::unit::{Shape, Unit, setting};
+
+pub const COMPARED: [&str; 3] = ["link", "nonmanifold", "project"];
+
+#[rustfmt::skip]
+unsafe extern "C" {
+    /// 1 where the edge a b passes the link test among the elements.
+    fn h_link(
+        a: u32, b: u32,
+        elements: *const u32, elements_len: usize,
+        strata: *const u64, strata_len: usize,
+        work: *mut u32, work_len: usize,
+    ) -> u32;
+    /// 1 where some vertex of the surface is nonmanifold.
+    fn h_nonmanifold(
+        surface: *const u32, surface_len: usize,
+        vertices: u32,
+        work: *mut u32, work_len: usize,
+    ) -> u32;
+    /// 1 and the point, or 0; `active` has a bit for each active field.
+    fn h_project(
+        bounds: &[f64; 6],
+        count: u32, kinds: &[u32; 8], floats: &[f64; 32],
+        active: u32,
+        origin: &[f64; 3], candidate: &[f64; 3],
+        point: &mut [f64; 3],
+    ) -> u32;
+}
+
+fn port_link(a: usize, b: usize, tets: &[[usize; 4]], strata: &[u64]) -> u32 {
+    let elements = flat(tets);
+    let mut area = work(tets.len(), strata.len());
+    // Each pointer is that of a live buffer of the length beside it.
+    unsafe {
+        let (e, s, w) = (elements.as_ptr(), strata.as_ptr(), area.as_mut_ptr());
+        h_link(a as u32, b as u32, e, elements.len(), s, strata.len(), w, area.len())
+    }
+}
+
+fn port_nonmanifold(vertices: usize, surface: &[[usize; 3]]) -> u32 {
+    let triples = flat(surface);
+    let mut area = work(surface.len(), vertices);
+    // Each pointer is that of a live buffer of the length beside it.
+    unsafe {
+        let w = area.as_mut_ptr();
+        h_nonmanifold(triples.as_ptr(), triples.len(), vertices as u32, w, area.len())
+    }
+}
+
+fn port_project(b: &[f64; 6], fields: &[Shape], active: &[usize], from: Point, to: Point) -> Value {
+    let mut kinds = [0; 8];
+    let mut floats = [0.; 32];
+    for (j, (kind, numbers)) in fields.iter().enumerate() {
+        kinds[j] = *kind;
+        floats[4 * j..4 * j + 4].copy_from_slice(numbers);
+    }
+    let bits = active.iter().fold(0, |m, j| m | 1 << j);
+    let mut p = [0.; 3];
+    let count = fields.len() as u32;
+    // Every reference is to a live array of the length declared.
+    let found = unsafe { h_project(b, count, &kinds, &floats, bits, &from, &to, &mut p) };
+    if found == 0 { Value::Number(0) } else { Value::Point(p) }
+}
+
+/// What the port gives.
+pub fn port(unit: &Unit) -> Value {
+    match unit {
+        Unit::Link(a, b, tets, strata) => Value::Number(port_link(*a, *b, tets, strata).into()),
+        Unit::Nonmanifold(n, surface) => Value::Number(port_nonmanifold(*n, surface).into()),
+        Unit::Project(b, fields, active, from, to) => port_project(b, fields, active, *from, *to),
+        _ => panic!("{} is not compared here", unit.name()),
+    }
+}
+
+/// What the original gives.
+pub fn judge(unit: &Unit) -> Value {
+    match unit {
+        Unit::Link(a, b, tets, strata) => {
+            Value::Number(original::link(*a, *b, tets, strata).into())
+        }
+        Unit::Nonmanifold(n, surface) => {
+            Value::Number(u64::from(!original::nonmanifold(surface, *n).is_empty()))
+        }
+        Unit::Project(b, fields, active, from, to) => {
+            match (DOC01.project)(&setting(b, [1; 3], false), fields, active, *from, *to) {
+                Some(p) => Value::Point(p),
+                None => Value::Number(0),
+            }
+        }
+        _ => panic!("{} is not compared here", unit.name()),
+    }
+}
