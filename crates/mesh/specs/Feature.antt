@@ -30,7 +30,7 @@ sameLabel l m = eqb (l .x) (m .x) && (eqb (l .y) (m .y) && (eqb (l .u) (m .u) &&
 -- the places of the bits of m, n of them from place k on
 unfoldable pub bitsFrom : ℕ → ℕ → ℕ → List ℕ
 bitsFrom zero k m = []
-bitsFrom (suc n) k m = cond (eqb (m % 2) 1) (k ∷ bitsFrom n (k + 1) (m / 2)) (bitsFrom n (k + 1) (m / 2))
+bitsFrom (suc n) k m = cond (eqb (m % 2) 1) (k ∷ []) [] ++ bitsFrom n (k + 1) (m / 2)
 
 -- the bits of a stratum, 0 to 37 in rising order
 unfoldable pub bitsOf : ℕ → List ℕ
