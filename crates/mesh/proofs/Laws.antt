@@ -14,3 +14,4 @@ pub mod Halving
 pub mod Boundary
 pub mod Complex
 pub mod Link
+pub mod Intake

@@ -11,6 +11,7 @@ use crate::element::tet_face;
 use crate::rows::eq_rows;
 use crate::rows::sort_rows;
 use crate::words::clear;
+use crate::words::copy_over;
 use crate::words::word;
 ghost use mathlib.Core.Path.{_≡_};
 ghost use Prim.Native.Nat.{_+_, _*_, _≤_};
@@ -60,18 +61,6 @@ fn call_fits(n: usize, elements: usize, surface: usize, work: usize) -> bool
         return false;
     }
     36 * n <= work
-}
-
-// The first n words of `from` over those of `to`.
-fn copy_over(to: &mut [u32], from: &[u32], n: usize)
-    requires { ⌜ (n ≤ length (now to)) × (n ≤ length (now from)) ⌝ }
-    ensures { λ _. ⌜ now (to .exit) ≡ paste (now (to .entry)) 0 (now (from .entry)) n ⌝ }
-{
-    let mut p = 0;
-    while p < n {
-        to[p] = from[p];
-        p += 1;
-    }
 }
 
 // The face with this number.

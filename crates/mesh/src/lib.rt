@@ -5,4 +5,5 @@ pub mod boundary;
 pub mod element;
 pub mod intake;
 pub mod rows;
+pub mod vertex;
 pub mod words;

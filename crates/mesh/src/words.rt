@@ -115,3 +115,15 @@ pub(crate) fn copy_words(s: &mut [u32], i: usize, k: usize, n: usize)
         p += 1;
     }
 }
+
+// The first n words of `from` over those of `to`.
+pub(crate) fn copy_over(to: &mut [u32], from: &[u32], n: usize)
+    requires { ⌜ (n ≤ length (now to)) × (n ≤ length (now from)) ⌝ }
+    ensures { λ _. ⌜ now (to .exit) ≡ paste (now (to .entry)) 0 (now (from .entry)) n ⌝ }
+{
+    let mut p = 0;
+    while p < n {
+        to[p] = from[p];
+        p += 1;
+    }
+}

@@ -7,7 +7,7 @@ use mathlib.Core.List.{List, [], _∷_}
 use Prim.Native.Nat.{ℕ}
 use lib.IntN.{ℤ, pos, negsuc}
 use lib.ListN.{length}
-use lib.Ieee.{Float, fin, binary64, toBits, lt, eq, add, sub, mul, div, neg}
+use lib.Ieee.{Float, fin, binary64, toBits, lt, le, eq, add, sub, mul, div, neg}
 use Rattle.geometry.specs.declared.point.Point.{Point}
 use Rattle.geometry.specs.Float.{zero64, one64}
 use Rattle.geometry.specs.Root.{sqrt}
@@ -17,7 +17,9 @@ use Rattle.geometry.specs.declared.bounds.Options.{Options}
 use Rattle.geometry.specs.Bounds.{canonical}
 use Rattle.geometry.specs.Rank.{nearestAway, rankValue, rank}
 use Rattle.mesh.specs.Element.{tet, triple, sortFirst, sortLast, keyOf, parityOf}
-use Rattle.mesh.specs.Boundary.{leTriple, allFaces, singles, boundaryOf}
+use Rattle.mesh.specs.Boundary.{leTriple, allFaces, singles, boundaryOf, keyNumber, firstNumber, boundaryNumber}
+use Rattle.mesh.specs.declared.element.Tet.{Tet}
+use Rattle.mesh.specs.Intake.{Given, allDifferent, intake}
 use Rattle.mesh.specs.Sort.{insert, sort}
 use Rattle.mesh.specs.Complex.{faces, alternating}
 use Rattle.mesh.specs.Moves.{flip23}
@@ -57,6 +59,19 @@ unit-box periodic = record {
   passes = 1;
 }
 
+-- M4's points, with the box 0 to 1, no field, buffers exactly long enough, and one element
+abbrev one-element : Tet → Given
+one-element t = record {
+  sizes = record { vertices = 4; elements = 1; triples = 4 };
+  lengths = record { parameters = 12; points = 12; masks = 4; elements = 8; surface = 12; words = 1408; floats = 64 };
+  options = unit-box 0;
+  count = 0;
+  fields = [];
+  parameters = p000 ∷ p100 ∷ p010 ∷ p001 ∷ [];
+  points = p000 ∷ p100 ∷ p010 ∷ p001 ∷ [];
+  elements = t ∷ [];
+}
+
 -- two elements on the face 0 1 2, and after two-to-three
 abbrev two-elements : List (List ℕ)
 two-elements = (0 ∷ 1 ∷ 2 ∷ 3 ∷ []) ∷ (0 ∷ 2 ∷ 1 ∷ 4 ∷ []) ∷ []
@@ -73,8 +88,8 @@ pub record Table : Type 0 where
   pub M3 : sqrt nine ≡ fin false 3 (pos 0)
   -- M4 points 000, 100, 010, 001: determinant 1, L 9
   pub M4 : (determinant p000 p100 p010 p001 ≡ one64) × (squaredEdges p000 p100 p010 p001 ≡ nine)
-  -- M5 its last two vertices exchanged: -1, which is not above 0
-  pub M5 : (determinant p000 p100 p001 p010 ≡ fin true 1 (pos 0)) × (lt zero64 (determinant p000 p100 p001 p010) ≡ false)
+  -- M5 its last two vertices exchanged: −1, so 15
+  pub M5 : (determinant p000 p100 p001 p010 ≡ fin true 1 (pos 0)) × (intake (one-element (tet 0 1 3 2)) ≡ 15) × (intake (one-element (tet 0 1 2 3)) ≡ 0)
   -- M6 M4 doubled: the same score
   pub M6 : score p000 (at two zero64 zero64) (at zero64 two zero64) (at zero64 zero64 two) ≡ score p000 p100 p010 p001
   -- M7 000, 100, 010 and (1, 1, 1/16): bad; with 1/8: not bad
@@ -93,13 +108,13 @@ pub record Table : Type 0 where
   pub M12-three : (faces 1 5 three-elements ≡ 5) × (faces 2 5 three-elements ≡ 10) × (faces 3 5 three-elements ≡ 9) × (length three-elements ≡ 3) × (alternating 5 three-elements ≡ pos 1)
 
 pub table : Table
-unfolding canonical nearestAway rankValue rank sqrt toBits determinant squaredEdges score add sub mul div neg lt eq sortFirst sortLast keyOf parityOf leTriple allFaces singles boundaryOf insert sort faces
+unfolding canonical nearestAway rankValue rank sqrt toBits determinant squaredEdges score add sub mul div neg lt eq sortFirst sortLast keyOf parityOf leTriple allFaces singles boundaryOf keyNumber firstNumber boundaryNumber allDifferent intake le insert sort faces
 table = record {
   M1 = refl;
   M2 = refl;
   M3 = refl;
   M4 = (refl, refl);
-  M5 = (refl, refl);
+  M5 = (refl, refl, refl);
   M6 = refl;
   M7 = (refl, refl);
   M8 = refl;

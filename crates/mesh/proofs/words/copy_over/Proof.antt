@@ -1,4 +1,4 @@
--- `mesh::boundary::copy_over` meets its contract. The invariant: the first p words are pasted. Assumes nothing.
+-- `mesh::words::copy_over` meets its contract. The invariant: the first p words are pasted. Assumes nothing.
 use borrow.Author.Needs.{needs}
 use mathlib.Core.List.{List}
 use mathlib.Core.Path.{_≡_, refl, ap, _∙_}
@@ -7,8 +7,8 @@ use native.Mathlib.Omega.{arith}
 use lib.ListN.{set, getD, length-set, length}
 use lib.Seq.{paste, paste-zero}
 use Rattle.mesh.proofs.Laws.Boundary.Writes.{over-turn}
-use Rattle.mesh.proofs.boundary.copy_over.Statement.{statement}
-use Rattle.mesh.proofs.boundary.copy_over.Tie as tie
+use Rattle.mesh.proofs.words.copy_over.Statement.{statement}
+use Rattle.mesh.proofs.words.copy_over.Tie as tie
 
 abbrev Inv-loop : tie.InvT-loop
 Inv-loop to₀ from n p₀ to p = (p ≤ n) × (to ≡ paste to₀ 0 from p) × (length to ≡ length to₀)

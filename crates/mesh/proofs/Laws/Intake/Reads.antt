@@ -1,0 +1,74 @@
+-- Elements and points by index: what `tet_at` and `point_at` read is the element or the point with that number. Assumes nothing.
+use mathlib.Core.Path.{_≡_, refl, ap, _∙_}
+use mathlib.Core.List.{List}
+use Prim.Native.Nat.{ℕ, zero, suc, _+_, _*_, _/_, _≤_, _<_}
+use native.Mathlib.Nat.{not-suc-le-zero, le-of-suc-le-suc}
+use native.Mathlib.Omega.{arith}
+use lib.Ieee.{Float}
+use lib.ListN.{length, getD, drop, List·getD-eq-default}
+use lib.Seq.{getD-drop}
+use Rattle.geometry.specs.declared.point.Point.{Point}
+use Rattle.geometry.specs.Float.{zero64}
+use Rattle.mesh.specs.declared.element.Tet.{Tet}
+use Rattle.mesh.specs.Words.{wordAt, floatAt, pointsOf}
+use Rattle.mesh.specs.Element.{tet, tets}
+use Rattle.mesh.specs.Intake.{tetAt, pointIn}
+
+-- ---- past the end
+
+pub tet-past : (s : List ℕ) (e : ℕ) → length s / 4 < e → tet 0 0 0 0 ≡ tetAt s e
+unfolding tetAt
+tet-past s e h =
+    rw (past (4 * e) (omega arith), past (4 * e + 1) (omega arith), past (4 * e + 2) (omega arith), past (4 * e + 3) (omega arith))
+  where
+    past : (i : ℕ) → length s ≤ i → wordAt s i ≡ 0
+    past i l = List·getD-eq-default s 0 l
+
+pub point-past : (s : List Float) (v : ℕ) → length s / 3 < v → _≡_ {A = Point} (record { x = zero64; y = zero64; z = zero64 }) (pointIn s v)
+unfolding pointIn
+point-past s v h = rw (past (3 * v) (omega arith), past (3 * v + 1) (omega arith), past (3 * v + 2) (omega arith))
+  where
+    past : (i : ℕ) → length s ≤ i → floatAt s i ≡ zero64
+    past i l = List·getD-eq-default s zero64 l
+
+-- ---- elements
+
+pub length-tets : (n : ℕ) (s : List ℕ) → length (tets n s) ≡ n
+unfolding tets
+length-tets zero s = refl
+length-tets (suc n) s = ap suc (length-tets n (drop 4 s))
+
+tet-drop : (s : List ℕ) (e : ℕ) → tetAt (drop 4 s) e ≡ tetAt s (suc e)
+unfolding tetAt
+tet-drop s e = rw (at (4 * e) (4 * suc e) (omega arith), at (4 * e + 1) (4 * suc e + 1) (omega arith), at (4 * e + 2) (4 * suc e + 2) (omega arith), at (4 * e + 3) (4 * suc e + 3) (omega arith))
+  where
+    at : (i j : ℕ) → 4 + i ≡ j → wordAt (drop 4 s) i ≡ wordAt s j
+    at i j q = getD-drop 4 s i 0 ∙ ap (wordAt s) q
+
+-- the element e of n
+pub tets-at : (n : ℕ) (s : List ℕ) (e : ℕ) (z : Tet) → e < n → getD (tets n s) e z ≡ tetAt s e
+unfolding tets tetAt
+tets-at zero s e z h = absurd (not-suc-le-zero h)
+tets-at (suc n) s zero z h = refl
+tets-at (suc n) s (suc e) z h = tets-at n (drop 4 s) e z (le-of-suc-le-suc h) ∙ tet-drop s e
+
+-- ---- points
+
+pub length-points : (n : ℕ) (s : List Float) → length (pointsOf n s) ≡ n
+unfolding pointsOf
+length-points zero s = refl
+length-points (suc n) s = ap suc (length-points n (drop 3 s))
+
+point-drop : (s : List Float) (v : ℕ) → pointIn (drop 3 s) v ≡ pointIn s (suc v)
+unfolding pointIn
+point-drop s v = rw (at (3 * v) (3 * suc v) (omega arith), at (3 * v + 1) (3 * suc v + 1) (omega arith), at (3 * v + 2) (3 * suc v + 2) (omega arith))
+  where
+    at : (i j : ℕ) → 3 + i ≡ j → floatAt (drop 3 s) i ≡ floatAt s j
+    at i j q = getD-drop 3 s i zero64 ∙ ap (floatAt s) q
+
+-- the point of the vertex v of n
+pub points-at : (n : ℕ) (s : List Float) (v : ℕ) (z : Point) → v < n → getD (pointsOf n s) v z ≡ pointIn s v
+unfolding pointsOf pointIn
+points-at zero s v z h = absurd (not-suc-le-zero h)
+points-at (suc n) s zero z h = refl
+points-at (suc n) s (suc v) z h = points-at n (drop 3 s) v z (le-of-suc-le-suc h) ∙ point-drop s v
