@@ -4,6 +4,7 @@
 Run in the repository's folder:  python3 tools/trial/expected.py > crates/trial/stdout
 The cases are the constants of crates/trial/src; nothing else of the crates is read.
 """
+import itertools
 import math
 import re
 import struct
@@ -145,3 +146,77 @@ for i, row in enumerate(rows(cases("fields", "FIELDS"), 8)):
 for n in cases("words", "WORDS"):
     bits = pattern(of(n))
     print(f"words {n:016x} {bits % 2**32} {bits >> 32} {order_bits(of(n)):016x}")
+
+
+# Intake, in the table's order, on the trial program's mesh.
+POINTS = [(0, 0, 0), (1, 0, 0), (0, 1, 0), (0, 0, 1), (0, 0, -1), (-1, -1, -1)]
+
+
+def intake_number(sizes, lengths, passes, coordinate, tets):
+    """The first number of document 01's table that applies, 0 if none does."""
+    nv, ne, ns = sizes
+    if nv > 4096 or ne > 16384 or ns > 4 * ne:
+        return 10
+    need = [3 * nv, 3 * nv, nv, 8 * ne, 12 * ne, 256 * ne + 32 * nv + 1024, 16 * nv]
+    if any(have < least for have, least in zip(lengths, need)):
+        return 10
+    if passes > 16:
+        return 11
+    points = POINTS + [(coordinate, 0.0, 0.0)] + [(0.0, 0.0, 0.0)] * 5000
+    if any(not abs(x) <= 2**20 for p in points[:nv] for x in p):
+        return 12
+    tets = tets[:ne]
+    if any(not 0 <= v < nv or t.count(v) > 1 for t in tets for v in t):
+        return 13
+    if len({tuple(sorted(t)) for t in tets}) < len(tets):
+        return 14
+    if any(not determinant([points[v] for v in t]) > 0 for t in tets):
+        return 15
+    return boundary_number(tets)
+
+
+def boundary_number(tets):
+    faces = {}
+    for a, b, c, d in tets:
+        for f in [(a, b, d), (a, c, b), (a, d, c), (b, c, d)]:
+            faces.setdefault(tuple(sorted(f)), []).append(f)
+    for key in sorted(faces):
+        if len(faces[key]) > 2:
+            return 16
+        if len(faces[key]) == 2 and parity(faces[key][0]) == parity(faces[key][1]):
+            return 17
+    return 0
+
+
+def parity(f):
+    return ((f[0] > f[1]) + (f[0] > f[2]) + (f[1] > f[2])) % 2
+
+
+def exact(nv, ne):
+    return [3 * nv, 3 * nv, nv, 8 * ne, 12 * ne, 256 * ne + 32 * nv + 1024, 16 * nv]
+
+
+FIRST = [[0, 1, 2, 3], [0, 2, 1, 4]]
+ADDED = [(8, [0, 1, 2, 9]), (16, [1, 0, 3, 2]), (32, [0, 1, 3, 4]), (64, [0, 2, 1, 5]), (128, [5, 1, 2, 3])]
+
+for k in range(9):
+    lengths = exact(7, 2)
+    if 1 <= k <= 7:
+        lengths[k - 1] -= 1
+    print(f"intake short {k} {intake_number((7, 2, 9 if k == 8 else 8), lengths, 16, 0.0, FIRST)}")
+for nv in (4096, 4097):
+    print(f"intake vertices {nv} {intake_number((nv, 2, 8), exact(nv, 2), 16, 0.0, FIRST)}")
+for words in (1024, 1023):
+    print(f"intake empty {words} {intake_number((0, 0, 0), [0, 0, 0, 0, 0, words, 0], 16, 0.0, [])}")
+for n in cases("intakes", "COORDINATES"):
+    print(f"intake coordinate {n:016x} {intake_number((7, 2, 8), exact(7, 2), 16, of(n), FIRST)}")
+for second in sorted(itertools.permutations(range(4))):
+    tets = [FIRST[0], list(second)]
+    print(f"intake order {int(''.join(map(str, second)))} {intake_number((7, 2, 8), exact(7, 2), 16, 0.0, tets)}")
+for faults in range(256):
+    tets = FIRST + [t for weight, t in ADDED if faults & weight]
+    lengths = exact(7, len(tets))
+    lengths[2] -= faults & 1
+    coordinate = math.nan if faults & 4 else 0.0
+    number = intake_number((7, len(tets), 4 * len(tets)), lengths, 17 if faults & 2 else 16, coordinate, tets)
+    print(f"intake faults {faults} {number}")

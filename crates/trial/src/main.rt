@@ -1,6 +1,7 @@
 // The papers' edges, run on the compiled functions: each line says what was tried and what came.
 mod boxes;
 mod fields;
+mod intakes;
 mod ranks;
 mod roots;
 mod scores;
@@ -14,4 +15,5 @@ fn main() {
     boxes::run();
     fields::run();
     words::run();
+    intakes::run();
 }
