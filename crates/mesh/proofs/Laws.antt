@@ -15,3 +15,6 @@ pub mod Boundary
 pub mod Complex
 pub mod Link
 pub mod Intake
+pub mod Star
+pub mod Manifold
+pub mod Euler

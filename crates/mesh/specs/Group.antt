@@ -3,14 +3,35 @@ use Prim.Native.Nat.{ℕ, zero, suc, _+_}
 use mathlib.Core.Bool.{Bool, true, false, cond, _&&_}
 use mathlib.Core.List.{List, [], _∷_, map}
 use lib.Dec.{eqb, ltb, leb}
-use lib.ListN.{length}
+use lib.ListN.{length, take}
 use Rattle.geometry.specs.declared.point.Point.{Point}
 use Rattle.geometry.specs.declared.bounds.Options.{Options}
 use Rattle.geometry.specs.declared.bounds.Ranks.{Ranks}
 use Rattle.geometry.specs.Rank.{rank}
 use Rattle.mesh.specs.Words.{pointAt}
 use Rattle.mesh.specs.Sort.{sort, unique}
+use Rattle.mesh.specs.Rows.{eqRow}
 use Rattle.mesh.specs.Complex.{keep}
+
+-- ---- runs
+
+module _ {A : Type 0} (same : A → A → Bool) where
+  -- x in front of the first run where it is the same as that run's first, else a run of its own
+  unfoldable pub joinRun : A → List (List A) → List (List A)
+  joinRun x [] = (x ∷ []) ∷ []
+  joinRun x ([] ∷ gs) = (x ∷ []) ∷ gs
+  joinRun x ((y ∷ g) ∷ gs) = cond (same x y) ((x ∷ y ∷ g) ∷ gs) ((x ∷ []) ∷ (y ∷ g) ∷ gs)
+
+  -- the list cut into runs of the same neighbours
+  unfoldable pub runs : List A → List (List A)
+  runs [] = []
+  runs (x ∷ xs) = joinRun x (runs xs)
+
+-- the same first k words
+abbrev pub sameFirst : ℕ → List ℕ → List ℕ → Bool
+sameFirst k r q = eqRow (take k r) (take k q)
+
+-- ---- groups
 
 -- the n numbers from k on
 unfoldable pub numbers : ℕ → ℕ → List ℕ

@@ -15,3 +15,5 @@ pub mod FeatureByMasks
 pub mod Manifold
 pub mod Group
 pub mod Intake
+pub mod Star
+pub mod Euler

@@ -3,7 +3,10 @@
 // specs/.
 pub mod boundary;
 pub mod element;
+pub mod euler;
 pub mod intake;
+pub mod manifold;
 pub mod rows;
+pub mod star;
 pub mod vertex;
 pub mod words;

@@ -15,7 +15,8 @@ use Rattle.mesh.specs.declared.element.Tet.{Tet}
 use Rattle.mesh.specs.declared.intake.Sizes.{Sizes}
 use Rattle.mesh.specs.Words.{pointsOf}
 use Rattle.mesh.specs.Element.{triple, tets, verticesOf, cornersOf}
-use Rattle.mesh.specs.Intake.{Lengths, Given, intake}
+use Rattle.mesh.specs.declared.intake.Lengths.{Lengths}
+use Rattle.mesh.specs.Intake.{Given, intake}
 use Rattle.repair.specs.declared.answer.Answer.{Answer}
 use Rattle.repair.specs.declared.answer.Answer.the-variants.{Done, Refused}
 use Rattle.repair.specs.Mesh.{Mesh, Result, made, refused}

@@ -16,7 +16,8 @@ use Rattle.mesh.specs.Complex.{alternating}
 use Rattle.mesh.specs.Element.{verticesOf, keyOf, parityOf}
 use Rattle.mesh.specs.Boundary.{allFaces, withKey}
 use Rattle.mesh.specs.Group.{rankOf}
-use Rattle.mesh.specs.Intake.{Lengths, intake}
+use Rattle.mesh.specs.declared.intake.Lengths.{Lengths}
+use Rattle.mesh.specs.Intake.{intake}
 use Rattle.repair.specs.Mesh.{measure, determinantOf, scoreOf, lowestOf}
 use Rattle.repair.specs.Step.{State, Call, Pass, meshOf, given, numberOf, step, run, improveCounts}
 

@@ -1,0 +1,4 @@
+-- Laws of the counts of simplices.
+pub mod Simplices
+pub mod Faces
+pub mod Areas
