@@ -1,0 +1,75 @@
+-- Whatever each collapse keeps, a trial, a round and all rounds keep. Assumes nothing.
+use mathlib.Core.Path.{_≡_, refl, sym}
+use mathlib.Core.Logic.{_≢_, inl, inr}
+use mathlib.Core.Bool.{Bool, true, false, not, cond, _&&_, _||_}
+use mathlib.Core.List.{List, [], _∷_}
+use Prim.Native.Nat.{ℕ, zero, suc, _<_}
+use borrow.Author.Tests.{ltb-true, eqb-false, eq-eqb, not-true}
+use lib.Dec.{eqb, ltb}
+use lib.ListN.{length}
+use Rattle.geometry.specs.declared.bounds.Options.{Options}
+use Rattle.geometry.specs.Bounds.{spacing}
+use Rattle.mesh.specs.declared.element.Pair.{Pair}
+use Rattle.mesh.specs.Complex.{mem}
+use Rattle.mesh.specs.Tests.{every}
+use Rattle.mesh.proofs.Laws.Complex.Sets.{split, nope, clash, or-left, or-right, and-fst, and-snd}
+use Rattle.repair.specs.Mesh.{Mesh, Measure}
+use Rattle.repair.specs.Improve.{State, listedEdges, mayGo, go, tryEdge, tryEdges, round, rounds}
+use Rattle.repair.proofs.Laws.Improve.Edges.{joins}
+
+-- what holds of a trial of a into b that succeeds
+pub record Tried (o : Options) (m : Mesh) (μ : Measure) (n : ℕ) (s : State) (a b : ℕ) : Type 0 where
+  pub first : a < n
+  pub second : b < n
+  pub differ : a ≢ b
+  pub first-there : mem a (s .replaced) ≡ false
+  pub second-there : mem b (s .replaced) ≡ false
+  pub may : mayGo o m μ s a b ≡ true
+
+module _ (o : Options) (m : Mesh) (μ : Measure) (n : ℕ) (Q : State → Type 0) (keeps : (s : State) (a b : ℕ) → Tried o m μ n s a b → Q s → Q (go o m μ s a b)) where
+  tryEdge-keeps : (s : State) (e : Pair) → joins n e ≡ true → Q s → Q (tryEdge o m μ s e)
+  unfolding tryEdge
+  tryEdge-keeps s e j q =
+      let A = mem (e .a) (s .replaced) in
+      let B = mem (e .b) (s .replaced) in
+      let k = and-snd (ltb (e .a) n) (ltb (e .b) n && not (eqb (e .a) (e .b))) j in
+      let la = ltb-true (e .a) n (and-fst (ltb (e .a) n) (ltb (e .b) n && not (eqb (e .a) (e .b))) j) in
+      let lb = ltb-true (e .b) n (and-fst (ltb (e .b) n) (not (eqb (e .a) (e .b))) k) in
+      let ab : e .a ≢ e .b = eqb-false (e .a) (e .b) (not-true (eqb (e .a) (e .b)) (and-snd (ltb (e .b) n) (not (eqb (e .a) (e .b))) k)) in
+      elim (split (A || B)) [
+        | inl h ↦ rw h q
+        | inr h ↦
+            let na : A ≡ false = nope (λ z. clash (or-left B z) h) in
+            let nb : B ≡ false = nope (λ z. clash (or-right A z) h) in
+            rw h
+            (elim (split (mayGo o m μ s (e .a) (e .b))) [
+              | inl f ↦ rw f (keeps s (e .a) (e .b) (record { first = la; second = lb; differ = ab; first-there = na; second-there = nb; may = f }) q)
+              | inr f ↦
+                  rw f
+                  (elim (split (mayGo o m μ s (e .b) (e .a))) [
+                    | inl g ↦ rw g (keeps s (e .b) (e .a) (record { first = lb; second = la; differ = λ z. ab (sym z); first-there = nb; second-there = na; may = g }) q)
+                    | inr g ↦ rw g q
+                  ])
+            ])
+      ]
+
+  tryEdges-keeps : (es : List Pair) (s : State) → every (joins n) es ≡ true → Q s → Q (tryEdges o m μ s es)
+  unfolding tryEdges
+  tryEdges-keeps [] s j q = q
+  tryEdges-keeps (e ∷ es) s j q =
+      tryEdges-keeps es (tryEdge o m μ s e) (and-snd (joins n e) (every (joins n) es) j) (tryEdge-keeps s e (and-fst (joins n e) (every (joins n) es) j) q)
+
+  pub rounds-keep : ((s : State) → Q s → every (joins n) (listedEdges μ (spacing o) (s .elements)) ≡ true) → (k : ℕ) (s : State) → Q s → Q (rounds o m μ k s)
+  unfolding rounds
+  rounds-keep j zero s q = q
+  rounds-keep j (suc k) s q =
+      elim (split (eqb (length (round o m μ s .replaced)) (length (s .replaced)))) [
+        | inl h ↦ rw h q
+        | inr h ↦ rw h (rounds-keep j k (round o m μ s) (tryEdges-keeps (listedEdges μ (spacing o) (s .elements)) s (j s q) q))
+      ]
+
+-- a round that collapses nothing ends the rounds
+pub rounds-end : (o : Options) (m : Mesh) (μ : Measure) (k : ℕ) (s : State) → length (round o m μ s .replaced) ≡ length (s .replaced) → rounds o m μ k s ≡ s
+unfolding rounds
+rounds-end o m μ zero s h = refl
+rounds-end o m μ (suc k) s h = rw (eq-eqb (length (round o m μ s .replaced)) (length (s .replaced)) h) refl

@@ -1,0 +1,110 @@
+-- Over all rounds of `improve`, where no two vertices have the same ranks: the elements come from those at the start by collapses, so
+-- they are proper and have the same alternating count; each has its determinant above 0; each score is above the floor at the start, less
+-- 2e-12 for each vertex replaced. The measure is any whose scores are exact. Assumes nothing.
+use mathlib.Core.Path.{_≡_, refl, sym, ap, subst, _∙_}
+use mathlib.Core.Logic.{_≢_, _⊎_, inl, inr}
+use mathlib.Core.Bool.{Bool, true, false, not, cond, _&&_, _||_}
+use mathlib.Core.List.{List, [], _∷_, _++_, map, List·Memᴰ, Memᴰ·of-map, Memᴰ·map}
+use Prim.Native.Nat.{ℕ, suc, _≤_, _<_}
+use borrow.Author.Tests.{ne-eqb}
+use lib.Dec.{eqb}
+use lib.ListN.{length}
+use Rattle.geometry.specs.declared.bounds.Options.{Options}
+use Rattle.geometry.specs.Literals.{tenth}
+use Rattle.geometry.specs.Units.{unitsOf}
+use Rattle.geometry.specs.Bounds.{spacing}
+use Rattle.mesh.specs.declared.element.Pair.{Pair}
+use Rattle.mesh.specs.declared.element.Tet.{Tet}
+use Rattle.mesh.specs.Complex.{mem, keep, Proper}
+use Rattle.mesh.specs.Tests.{nodup}
+use Rattle.mesh.specs.Moves.{Run, start, then}
+use Rattle.mesh.specs.Element.{pair, tet, verticesOf}
+use Rattle.mesh.specs.Feature.{linkOk}
+use Rattle.mesh.proofs.Laws.Complex.Sets.{split, nope, clash, or-left, or-right, and-fst, and-snd, out-head, out-tail}
+use Rattle.mesh.proofs.Laws.Complex.Steps.{run-keeps}
+use Rattle.mesh.proofs.Laws.Link.Members.{kept-elim, kept-intro}
+use Rattle.repair.specs.Mesh.{Mesh, Measure, any, has}
+use Rattle.repair.specs.Improve.{State, stratumOf, stratumRule, pairOk, image, imageOf, about, collapsed, go, pairsFor, rounds}
+use Rattle.repair.specs.Wholeness.{Exact}
+use Rattle.repair.proofs.Laws.Improve.Single.{Distinct, Goes, goes}
+use Rattle.repair.proofs.Laws.Improve.Collapse.{collapse-step}
+use Rattle.repair.proofs.Laws.Improve.Edges.{listed-join}
+use Rattle.repair.proofs.Laws.Improve.Passes.{Tried, rounds-keep}
+use Rattle.repair.proofs.Laws.Improve.Scores.{Floor, floor-more, gains-above, gains-floor}
+
+-- ---- the elements after one collapse
+
+same-tet : (a b c d : ℕ) (t : Tet) → a ≡ t .a → b ≡ t .b → c ≡ t .c → d ≡ t .d → tet a b c d ≡ t
+same-tet a b c d t p q r s = rw (p, q, r, s) refl
+
+image-other : (a b v : ℕ) → a ≢ v → image (pair a b ∷ []) v ≡ v
+unfolding image
+image-other a b v n = rw (ne-eqb a v n) refl
+
+-- an element without a stays as it is
+image-without : (a b : ℕ) (t : Tet) → has a t ≡ false → imageOf (image (pair a b ∷ [])) t ≡ t
+image-without a b t o =
+    let o₁ = out-tail a (t .a) (t .b ∷ t .c ∷ t .d ∷ []) o in
+    let o₂ = out-tail a (t .b) (t .c ∷ t .d ∷ []) o₁ in
+    same-tet (image (pair a b ∷ []) (t .a)) (image (pair a b ∷ []) (t .b)) (image (pair a b ∷ []) (t .c)) (image (pair a b ∷ []) (t .d)) t
+    (image-other a b (t .a) (out-head a (t .a) (t .b ∷ t .c ∷ t .d ∷ []) o))
+    (image-other a b (t .b) (out-head a (t .b) (t .c ∷ t .d ∷ []) o₁))
+    (image-other a b (t .c) (out-head a (t .c) (t .d ∷ []) o₂))
+    (image-other a b (t .d) (out-head a (t .d) [] (out-tail a (t .c) (t .d ∷ []) o₂)))
+
+-- an element after the collapse is one of those about the pair, which are tested, or was there before
+pub collapsed-cases : (a b : ℕ) (ts : List Tet) {t : Tet} → List·Memᴰ t (collapsed (pair a b ∷ []) ts)
+    → List·Memᴰ t (collapsed (pair a b ∷ []) (about (pair a b ∷ []) ts)) ⊎ List·Memᴰ t ts
+collapsed-cases a b ts {t} m =
+    let es : List Pair = pair a b ∷ [] in
+    let k = kept-elim (λ u. nodup (verticesOf u)) (map (imageOf (image es)) ts) m in
+    let r = Memᴰ·of-map (imageOf (image es)) ts (k .0) in
+    let u = r .0 in
+    elim (split (any (λ e. has (e .a) u || has (e .b) u) es)) [
+      | inl h ↦
+          let i : List·Memᴰ u (about es ts) = kept-intro (λ x. any (λ e. has (e .a) x || has (e .b) x) es) ts (r .1) h in
+          inl (kept-intro (λ x. nodup (verticesOf x)) (map (imageOf (image es)) (about es ts)) (subst (λ x. List·Memᴰ x (map (imageOf (image es)) (about es ts))) (r .2) (Memᴰ·map (imageOf (image es)) i)) (k .1))
+      | inr h ↦
+          let o : has a u ≡ false = nope (λ z. clash (or-left false (or-left (has b u) z)) h) in
+          inr (subst (λ x. List·Memᴰ x ts) (sym (image-without a b u o) ∙ r .2) (r .1))
+    ]
+
+-- ---- what a collapse keeps
+
+pub record Kept (n : ℕ) (es : List (List ℕ)) (μ : Measure) (U : ℕ) (s : State) : Type 0 where
+  pub run : Run n es n (map verticesOf (s .elements))
+  pub above : (t : Tet) → List·Memᴰ t (s .elements) → μ .above t ≡ true
+  pub floor : (t : Tet) → List·Memᴰ t (s .elements) → Floor U (length (s .replaced)) (μ .score t)
+
+module _ (o : Options) (m : Mesh) (μ : Measure) (es : List (List ℕ)) (U : ℕ) (P : Proper (length (m .parameters)) es) (d : Distinct o (m .parameters)) (exact : (t : Tet) → Exact (μ .score t)) (low : U ≤ unitsOf tenth) where
+  kept-proper : (s : State) → Kept (length (m .parameters)) es μ U s → Proper (length (m .parameters)) (map verticesOf (s .elements))
+  kept-proper s k = run-keeps (length (m .parameters)) es P (k .run) .0
+
+  collapse-kept : (s : State) (a b : ℕ) → a ≢ b → Goes o m d μ s a b → Kept (length (m .parameters)) es μ U s
+      → Kept (length (m .parameters)) es μ U (record { elements = collapsed (pair a b ∷ []) (s .elements); replaced = a ∷ s .replaced })
+  collapse-kept s a b ab g k =
+      let one : List Pair = pair a b ∷ [] in
+      let ts = s .elements in
+      let old = about one ts in
+      let ok = and-snd (stratumRule o m a b) (any (λ t. has a t && has b t) ts && linkOk (stratumOf o m) a b ts) (g .ok) in
+      let old-floor : (t : Tet) → List·Memᴰ t old → Floor U (length (s .replaced)) (μ .score t) = λ t i. k .floor t (kept-elim (λ x. any (λ e. has (e .a) x || has (e .b) x) one) ts i .0) in
+      record {
+        run = then (k .run) (collapse-step (stratumOf o m) (length (m .parameters)) a b ts (kept-proper s k) ab (and-fst (any (λ t. has a t && has b t) ts) (linkOk (stratumOf o m) a b ts) ok) (and-snd (any (λ t. has a t && has b t) ts) (linkOk (stratumOf o m) a b ts) ok));
+        above = λ t i. elim (collapsed-cases a b ts i) [ inl j ↦ gains-above μ exact old (collapsed one old) (g .gain) t j | inr j ↦ k .above t j ];
+        floor = λ t i. elim (collapsed-cases a b ts i) [
+          | inl j ↦ gains-floor μ exact old (collapsed one old) (g .gain) U (length (s .replaced)) low old-floor t j
+          | inr j ↦ floor-more U (length (s .replaced)) (μ .score t) (k .floor t j)
+        ];
+      }
+
+  go-kept : (s : State) (a b : ℕ) → Tried o m μ (length (m .parameters)) s a b → Kept (length (m .parameters)) es μ U s → Kept (length (m .parameters)) es μ U (go o m μ s a b)
+  go-kept s a b t k =
+      let g = goes o m d μ s a b (t .first) (t .second) (t .first-there) (t .second-there) (t .may) in
+      subst (λ (ps : List Pair). Kept (length (m .parameters)) es μ U (record { elements = collapsed ps (s .elements); replaced = map (λ e. e .a) ps ++ s .replaced })) (sym (g .pairs))
+      (collapse-kept s a b (t .differ) g k)
+
+  -- so do all rounds
+  pub rounds-kept : (k : ℕ) (s : State) → Kept (length (m .parameters)) es μ U s → Kept (length (m .parameters)) es μ U (rounds o m μ k s)
+  rounds-kept k s h =
+      rounds-keep o m μ (length (m .parameters)) (Kept (length (m .parameters)) es μ U) go-kept
+      (λ r q. listed-join (length (m .parameters)) μ (spacing o) (r .elements) (kept-proper r q)) k s h
