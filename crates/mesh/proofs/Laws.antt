@@ -18,3 +18,4 @@ pub mod Intake
 pub mod Star
 pub mod Manifold
 pub mod Euler
+pub mod Group

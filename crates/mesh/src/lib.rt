@@ -4,6 +4,7 @@
 pub mod boundary;
 pub mod element;
 pub mod euler;
+pub mod group;
 pub mod intake;
 pub mod manifold;
 pub mod rows;

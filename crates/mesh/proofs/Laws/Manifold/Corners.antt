@@ -87,7 +87,7 @@ edge-rows-from s (suc k) i =
 edge-rows : (s : List ℕ) (n : ℕ) → map (edgeRow s) (numbers 0 (3 * n)) ≡ map pairRow (surfaceEdges (triples n s))
 edge-rows s n = edge-rows-from s n 0
 
-keep-map : {A B : Type 0} (f : A → B) (p : B → Bool) (l : List A) → keep p (map f l) ≡ map f (keep (λ x. p (f x)) l)
+pub keep-map : {A B : Type 0} (f : A → B) (p : B → Bool) (l : List A) → keep p (map f l) ≡ map f (keep (λ x. p (f x)) l)
 keep-map f p [] = refl
 keep-map f p (x ∷ l) = elim (split (p (f x))) [ inl e ↦ rw e (ap (λ u. f x ∷ u) (keep-map f p l)) | inr e ↦ rw e (keep-map f p l) ]
 

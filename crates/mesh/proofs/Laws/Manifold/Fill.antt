@@ -97,9 +97,21 @@ module _ (row : ℕ → List ℕ) (w : ℕ) (size : (j : ℕ) → length (row j)
         ∙ append-assoc (take b s₀) (x ++ row n) (drop (b + w * (n + 1)) s₀)
         ∙ ap (λ (u : List ℕ). take b s₀ ++ (u ++ drop (b + w * (n + 1)) s₀)) (sym (words-more n))
 
+    -- what stood behind the rows is kept too
+    fill-rest : (n : ℕ) → drop (b + w * n) (filled row w b n s₀) ≡ drop (b + w * n) s₀
+    unfolding filled
+    fill-rest n =
+        let x = flat (map row (numbers 0 n)) in
+        let d = drop (b + w * n) s₀ in
+        let l : length (take b s₀ ++ x) ≡ b + w * n = length-append (take b s₀) x ∙ ap₂ (λ (u v : ℕ). u + v) front (words n) in
+        ap (drop (b + w * n)) (sym (append-assoc (take b s₀) x d)) ∙ drop-at (take b s₀ ++ x) d (b + w * n) l
+
     -- the area with the rows written
     pub fill-kept : (n : ℕ) (s : List ℕ) → b + w * n ≤ length s₀ → s ≡ filled row w b n s₀ → KeptBelow b s₀ s
     fill-kept n s h e = record { front = ap (take b) e ∙ fill-front n; long = ap length e ∙ fill-long n h }
 
     pub filled-rows : (n : ℕ) (s : List ℕ) → s ≡ filled row w b n s₀ → rows w n (drop b s) ≡ map row (numbers 0 n)
     filled-rows n s e = ap (λ (l : List ℕ). rows w n (drop b l)) e ∙ fill-rows n
+
+    pub filled-rest : (n : ℕ) (s : List ℕ) → s ≡ filled row w b n s₀ → drop (b + w * n) s ≡ drop (b + w * n) s₀
+    filled-rest n s e = ap (drop (b + w * n)) e ∙ fill-rest n
