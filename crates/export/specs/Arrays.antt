@@ -1,5 +1,6 @@
 -- How the exported functions read their arrays. Definitions only.
 use Prim.Native.Nat.{ℕ, zero, suc, _+_, _%_, _^_}
+use mathlib.Core.Bool.{Bool, true, false}
 use mathlib.Core.List.{List}
 use lib.Ieee.{Float, nan}
 use lib.ListN.{getD, set}
@@ -42,3 +43,8 @@ along p (suc (suc k)) = p .z
 abbrev pub answerOver : List ℕ → Outcome → List ℕ
 answerOver l (Surface c) = set (set l 0 0) 1 (c % 2 ^ 32)
 answerOver l (Refused n) = set (set l 0 n) 1 0
+
+-- 1 for true, 0 for false
+abbrev pub asNumber : Bool → ℕ
+asNumber true = 1
+asNumber false = 0

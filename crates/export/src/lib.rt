@@ -7,7 +7,7 @@ use geometry::field::Field;
 use geometry::point::Point;
 use mesh::boundary::Outcome;
 ghost use mathlib.Core.Path.{_≡_};
-ghost use Prim.Native.Nat.{_<_, _%_, _/_};
+ghost use Prim.Native.Nat.{_<_, _*_, _%_, _/_};
 ghost use lib.ListN.{length};
 ghost use lib.Dec.{eqb};
 ghost use Rattle.geometry.specs.Root.{sqrt};
@@ -16,8 +16,10 @@ ghost use Rattle.geometry.specs.Score.{squaredEdges, score};
 ghost use Rattle.geometry.specs.Bounds.{spacing, canonicalValue, cap};
 ghost use Rattle.geometry.specs.Rank.{rankValue};
 ghost use Rattle.geometry.specs.Field.{value, gradient};
+ghost use Rattle.mesh.specs.Manifold.{nonmanifoldIn};
 ghost use Rattle.mesh.specs.Surface.{boundaryCall};
-ghost use Rattle.export.specs.Arrays.{pointOf, boundsOf, optionsOf, fieldOf, along, answerOver};
+ghost use Rattle.mesh.specs.Words.{copied};
+ghost use Rattle.export.specs.Arrays.{pointOf, boundsOf, optionsOf, fieldOf, along, answerOver, asNumber};
 
 #[no_mangle]
 pub extern "C" fn h_root(x: f64) -> f64
@@ -205,4 +207,19 @@ pub extern "C" fn h_boundary(
             answer[1] = 0;
         }
     }
+}
+
+// 1 where a surface of as many triples as the slice holds has a nonmanifold vertex, or where the work is
+// too small, else 0. The number of vertices is not needed.
+#[no_mangle]
+pub extern "C" fn h_nonmanifold(surface: &[u32], _vertices: u32, work: &mut [u32]) -> u32
+    ensures { λ r. ⌜ (r ≡ asNumber (nonmanifoldIn (length (now (surface .entry)) / 3) (copied (now (surface .entry)) 0 (now (work .entry)) 0 (3 * (length (now (surface .entry)) / 3))) .answer))
+        × (now (work .exit) ≡ nonmanifoldIn (length (now (surface .entry)) / 3) (copied (now (surface .entry)) 0 (now (work .entry)) 0 (3 * (length (now (surface .entry)) / 3))) .area) ⌝ }
+{
+    let n = surface.len() / 3;
+    mesh::words::copy_into(surface, 0, work, 0, 3 * n);
+    if mesh::manifold::nonmanifold_in(work, n) {
+        return 1;
+    }
+    0
 }

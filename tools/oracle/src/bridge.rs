@@ -123,8 +123,8 @@ fn compare_one(name: &str, [port, judge]: [Side; 2], count: u64, r: &mut Random)
 fn compared() -> Vec<(&'static str, [Side; 2])> {
     let sides: [Side; 2] = [port, judge];
     let all = COMPARED.map(|name| (name, sides)).to_vec();
-    let sides: [Side; 2] = [crate::bridge_boundary::port, crate::bridge_boundary::judge];
-    let all = [all, crate::bridge_boundary::COMPARED.map(|name| (name, sides)).to_vec()].concat();
+    let sides: [Side; 2] = [crate::bridge_surface::port, crate::bridge_surface::judge];
+    let all = [all, crate::bridge_surface::COMPARED.map(|name| (name, sides)).to_vec()].concat();
     #[cfg(feature = "bridge-mesh")]
     let all = {
         let sides: [Side; 2] = [crate::bridge_mesh::port, crate::bridge_mesh::judge];

@@ -1,10 +1,10 @@
-//! The port's link test, nonmanifold test and projection from the export crate.
+//! The port's link test and projection from the export crate.
 use crate::bridge::Value;
-use crate::bridge_boundary::{flat, work};
+use crate::bridge_surface::{flat, work};
 use crate::original::{self, DOC01, Point};
 use crate::unit::{Shape, Unit, setting};
 
-pub const COMPARED: [&str; 3] = ["link", "nonmanifold", "project"];
+pub const COMPARED: [&str; 2] = ["link", "project"];
 
 #[rustfmt::skip]
 unsafe extern "C" {
@@ -13,12 +13,6 @@ unsafe extern "C" {
         a: u32, b: u32,
         elements: *const u32, elements_len: usize,
         strata: *const u64, strata_len: usize,
-        work: *mut u32, work_len: usize,
-    ) -> u32;
-    /// 1 where some vertex of the surface is nonmanifold.
-    fn h_nonmanifold(
-        surface: *const u32, surface_len: usize,
-        vertices: u32,
         work: *mut u32, work_len: usize,
     ) -> u32;
     /// 1 and the point, or 0; `active` has a bit for each active field.
@@ -41,16 +35,6 @@ fn port_link(a: usize, b: usize, tets: &[[usize; 4]], strata: &[u64]) -> u32 {
     }
 }
 
-fn port_nonmanifold(vertices: usize, surface: &[[usize; 3]]) -> u32 {
-    let triples = flat(surface);
-    let mut area = work(surface.len(), vertices);
-    // Each pointer is that of a live buffer of the length beside it.
-    unsafe {
-        let w = area.as_mut_ptr();
-        h_nonmanifold(triples.as_ptr(), triples.len(), vertices as u32, w, area.len())
-    }
-}
-
 fn port_project(b: &[f64; 6], fields: &[Shape], active: &[usize], from: Point, to: Point) -> Value {
     let mut kinds = [0; 8];
     let mut floats = [0.; 32];
@@ -70,7 +54,6 @@ fn port_project(b: &[f64; 6], fields: &[Shape], active: &[usize], from: Point, t
 pub fn port(unit: &Unit) -> Value {
     match unit {
         Unit::Link(a, b, tets, strata) => Value::Number(port_link(*a, *b, tets, strata).into()),
-        Unit::Nonmanifold(n, surface) => Value::Number(port_nonmanifold(*n, surface).into()),
         Unit::Project(b, fields, active, from, to) => port_project(b, fields, active, *from, *to),
         _ => panic!("{} is not compared here", unit.name()),
     }
@@ -81,9 +64,6 @@ pub fn judge(unit: &Unit) -> Value {
     match unit {
         Unit::Link(a, b, tets, strata) => {
             Value::Number(original::link(*a, *b, tets, strata).into())
-        }
-        Unit::Nonmanifold(n, surface) => {
-            Value::Number(u64::from(!original::nonmanifold(surface, *n).is_empty()))
         }
         Unit::Project(b, fields, active, from, to) => {
             match (DOC01.project)(&setting(b, [1; 3], false), fields, active, *from, *to) {

@@ -12,7 +12,7 @@ mod agree;
 #[cfg(feature = "bridge")]
 mod bridge;
 #[cfg(feature = "bridge")]
-mod bridge_boundary;
+mod bridge_surface;
 #[cfg(feature = "bridge-mesh")]
 mod bridge_mesh;
 mod case;

@@ -9,6 +9,8 @@ pub mod Triangles
 pub mod Points
 pub mod Rounds
 pub mod Keeps
+pub mod Counts
 pub mod Intake
 pub mod Buffers
 pub mod Calls
+pub mod Closed

@@ -3,9 +3,9 @@
 use mathlib.Core.Path.{_≡_, refl, sym, ap, subst, subst₂, _∙_}
 use mathlib.Core.Bool.{true}
 use mathlib.Core.List.{List, [], _∷_, _++_, map, List·Memᴰ}
-use Prim.Native.Nat.{ℕ, zero, suc, _+_}
+use Prim.Native.Nat.{ℕ, zero, suc}
 use lib.Ieee.{Float, lt}
-use lib.ListN.{length, take, drop, getD}
+use lib.ListN.{length, take, drop}
 use Rattle.geometry.specs.declared.point.Point.{Point}
 use Rattle.geometry.specs.Float.{zero64}
 use Rattle.mesh.specs.declared.element.Tet.{Tet}
@@ -17,11 +17,11 @@ use Rattle.mesh.specs.Boundary.{allFaces, withKey}
 use Rattle.mesh.specs.declared.intake.Lengths.{Lengths}
 use Rattle.mesh.specs.Intake.{intake}
 use Rattle.repair.specs.Mesh.{Mesh, determinantOf, scoreOf}
-use Rattle.repair.specs.Step.{State, Call, triplesOf, meshOf, floatsOf, elementWords, tripleWords, over, committed, given}
+use Rattle.repair.specs.Step.{State, Call, triplesOf, meshOf, floatsOf, elementWords, tripleWords, committed, given}
 use Rattle.repair.specs.Wholeness.{OneOrTwo, Exact, Whole}
 use Rattle.repair.proofs.Laws.Improve.Scores.{Floor}
 use Rattle.repair.proofs.Laws.Improve.Keeps.{Sound, Keeps, floorUnits}
-use Rattle.repair.proofs.Laws.Improve.Intake.{Passed, intake-passed, passed-proper, passed-upright}
+use Rattle.repair.proofs.Laws.Improve.Intake.{intake-passed, passed-proper, passed-upright}
 
 -- ---- put and read again
 

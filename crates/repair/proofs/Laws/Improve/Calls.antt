@@ -1,7 +1,6 @@
 -- Calls on buffers. `improve-step`: demand 3 for one call of `improve` that gives a count. `wholeness-by`: if every `smooth` and every
 -- `flip` that gives a count keeps it too, then so does every list of calls. Assumes nothing.
 use mathlib.Core.Path.{_≡_, refl, sym, ap, subst, _∙_}
-use mathlib.Core.Logic.{inl, inr}
 use mathlib.Core.Bool.{Bool, true, false, cond}
 use mathlib.Core.List.{List, [], _∷_, map, List·Memᴰ, Memᴰ·of-map}
 use Prim.Native.Nat.{ℕ, _+_, _*_, _^_, _≤_, _<_}
@@ -10,27 +9,24 @@ use native.Mathlib.Omega.{arith}
 use borrow.Author.Tests.{eqb-true}
 use lib.Dec.{eqb}
 use lib.Ieee.{Float}
-use lib.ListN.{length, take}
-use Rattle.geometry.specs.Float.{one64, smaller}
+use lib.ListN.{take}
+use Rattle.geometry.specs.Float.{one64}
 use Rattle.geometry.specs.Literals.{tenth}
 use Rattle.geometry.specs.Units.{unitsOf}
-use Rattle.mesh.specs.declared.element.Tet.{Tet}
 use Rattle.mesh.specs.declared.intake.Sizes.{Sizes}
-use Rattle.mesh.specs.declared.intake.Lengths.{Lengths}
 use Rattle.mesh.specs.Intake.{intake}
-use Rattle.repair.specs.declared.answer.Answer.{Answer}
 use Rattle.repair.specs.declared.answer.Answer.the-variants.{Done, Refused}
 use Rattle.repair.specs.Mesh.{Mesh, Result, made, refused, measure, scoreOf, lowestOf}
 use Rattle.repair.specs.Improve
 use Rattle.repair.specs.Smooth
 use Rattle.repair.specs.Flip
 use Rattle.repair.specs.Step.{State, Call, Pass, meshOf, given, lengthsOf, resultOf, finish, sizesOf, committed, step, run, numberOf, improveCount, improveCounts}
-use Rattle.repair.specs.Wholeness.{PassesIntake, Closed, Apart, ApartAlong, Exact, floorOf, Whole, Wholeness}
+use Rattle.repair.specs.Wholeness.{PassesIntake, Apart, ApartAlong, floorOf, Whole, Wholeness}
 use Rattle.repair.proofs.Laws.Improve.Single.{Distinct}
 use Rattle.repair.proofs.Laws.Improve.Scores.{Floor, floor-of, smaller-keeps, lowest-keeps, tenth-one}
 use Rattle.repair.proofs.Laws.Improve.Points.{scores-exact}
 use Rattle.repair.proofs.Laws.Improve.Triangles.{boundary-triangles}
-use Rattle.repair.proofs.Laws.Improve.Keeps.{Sound, floor-tenth, floor-score, improve-keeps}
+use Rattle.repair.proofs.Laws.Improve.Keeps.{floor-tenth, floor-score, improve-keeps}
 use Rattle.repair.proofs.Laws.Improve.Intake.{intake-passed}
 use Rattle.repair.proofs.Laws.Improve.Buffers.{mesh-parameters, intake-sound, committed-whole}
 

@@ -2,8 +2,8 @@
 -- element and passes `link_ok` makes a step that keeps the alternating count. Assumes nothing.
 use mathlib.Core.Path.{_≡_, refl, sym, ap, fun-ext, _∙_}
 use mathlib.Core.Logic.{_≢_, inl, inr}
-use mathlib.Core.Bool.{Bool, true, false, not, cond, _&&_, _||_, true≢false}
-use mathlib.Core.List.{List, [], _∷_, map, List·Memᴰ, List·Memᴰ·head, List·Memᴰ·tail}
+use mathlib.Core.Bool.{Bool, true, false, not, cond, _&&_, true≢false}
+use mathlib.Core.List.{List, [], _∷_, map, List·Memᴰ·head, List·Memᴰ·tail}
 use Prim.Native.Nat.{ℕ}
 use borrow.Author.Tests.{eqb-true, eqb-false, eq-eqb, ne-eqb}
 use lib.Dec.{eqb}
@@ -13,7 +13,7 @@ use Rattle.mesh.specs.Tests.{nodup}
 use Rattle.mesh.specs.Moves.{onto, collapse, Step, collapses}
 use Rattle.mesh.specs.Element.{pair, verticesOf}
 use Rattle.mesh.specs.Feature.{linkOk}
-use Rattle.mesh.proofs.Laws.Complex.Sets.{split, nope, clash, same, or-cases, or-left, or-right, and-fst, and-snd, out-head, out-tail}
+use Rattle.mesh.proofs.Laws.Complex.Sets.{split, nope, clash, same, or-cases, or-left, or-right, out-head, out-tail}
 use Rattle.mesh.proofs.Laws.Link.Keys.{Fours, proper-fours}
 use Rattle.mesh.proofs.Laws.Link.Labels.{onto-cases, onto-member, onto-other, onto-a}
 use Rattle.mesh.proofs.Laws.Link.Together.{linkOk-collapsible}

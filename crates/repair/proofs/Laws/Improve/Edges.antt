@@ -1,7 +1,7 @@
 -- The edges that a round takes are edges of its elements: two different vertices below the vertex count. Assumes nothing.
 use mathlib.Core.Path.{_≡_, refl}
 use mathlib.Core.Logic.{_≢_, inl, inr}
-use mathlib.Core.Bool.{Bool, true, false, not, cond, _&&_}
+use mathlib.Core.Bool.{Bool, true, not, _&&_}
 use mathlib.Core.List.{List, [], _∷_, _++_, map, List·Memᴰ, List·Memᴰ·head, List·Memᴰ·tail, Memᴰ·map}
 use Prim.Native.Nat.{ℕ, min, max, _<_}
 use native.Mathlib.Omega.{arith}
@@ -13,7 +13,7 @@ use Rattle.geometry.specs.Literals.{threeQuarters}
 use Rattle.mesh.specs.declared.element.Pair.{Pair}
 use Rattle.mesh.specs.declared.element.Tet.{Tet}
 use Rattle.mesh.specs.Sort.{insert, sort, uniqueAfter, unique}
-use Rattle.mesh.specs.Complex.{mem, keep, IsElement, Proper}
+use Rattle.mesh.specs.Complex.{keep, IsElement, Proper}
 use Rattle.mesh.specs.Tests.{every}
 use Rattle.mesh.specs.Element.{samePair, verticesOf}
 use Rattle.mesh.proofs.Laws.Complex.Sets.{split, and-fst, and-snd, mem-here, mem-there, out-head, out-tail}

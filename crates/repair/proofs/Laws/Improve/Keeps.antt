@@ -1,9 +1,8 @@
 -- Demand 3 for one `improve` that makes a mesh, on values: the alternating count, the triangles, the determinants and the scores.
 -- Assumes nothing.
 use mathlib.Core.Path.{_≡_, refl, sym, ap, subst, subst₂, _∙_}
-use mathlib.Core.Logic.{inl, inr}
 use mathlib.Core.Bool.{Bool, true, false, cond}
-use mathlib.Core.List.{List, [], _∷_, map, List·Memᴰ, Memᴰ·of-map, Memᴰ·map}
+use mathlib.Core.List.{[], map, List·Memᴰ, Memᴰ·of-map, Memᴰ·map}
 use Prim.Native.Nat.{ℕ, _≤_}
 use native.Mathlib.Nat.{le-trans}
 use native.Mathlib.Omega.{arith}
@@ -24,23 +23,23 @@ use Rattle.mesh.specs.Complex.{Proper, alternating}
 use Rattle.mesh.specs.Moves.{Run, start, then}
 use Rattle.mesh.specs.Tests.{every}
 use Rattle.mesh.specs.Element.{verticesOf, keyOf}
-use Rattle.mesh.specs.Boundary.{allFaces, withKey, boundaryNumber}
+use Rattle.mesh.specs.Boundary.{allFaces, withKey}
 use Rattle.mesh.specs.Intake.{sizedPoint}
-use Rattle.mesh.proofs.Laws.Complex.Sets.{split}
+use Rattle.mesh.proofs.Laws.Complex.Sets.{mem-nil}
 use Rattle.mesh.proofs.Laws.Complex.Steps.{run-keeps, run-alternating}
-use Rattle.repair.specs.Mesh.{Mesh, Result, made, refused, Measure, measure, determinantOf, scoreOf, lowestOf}
+use Rattle.repair.specs.Mesh.{Mesh, made, refused, measure, determinantOf, scoreOf, lowestOf}
 use Rattle.repair.specs.Improve.{State, imageOf, placeOf, rounds, renumbered, endNumber, improve}
 use Rattle.repair.specs.Wholeness.{OneOrTwo, Exact}
-use Rattle.repair.proofs.Laws.Improve.Single.{Distinct}
+use Rattle.repair.proofs.Laws.Improve.Single.{Distinct, size}
 use Rattle.repair.proofs.Laws.Improve.Uses.{uses, renumber-step, points-kept}
 use Rattle.repair.proofs.Laws.Improve.Scores.{Floor, floor-of, smaller-left, smaller-right, lowest-keeps, lowest-least, tenth-exact, one-exact}
 use Rattle.repair.proofs.Laws.Improve.Triangles.{boundary-triangles, end-boundary}
-use Rattle.repair.proofs.Laws.Improve.Points.{scores-exact}
+use Rattle.repair.proofs.Laws.Improve.Points.{taken-sized, scores-exact}
 use Rattle.repair.proofs.Laws.Improve.Rounds.{Kept, rounds-kept}
 
 -- what intake says of a mesh
 pub record Sound (m : Mesh) : Type 0 where
-  pub counted : length (m .parameters) ≡ length (m .points)
+  pub counted : size m ≡ length (m .points)
   pub proper : Proper (length (m .points)) (map verticesOf (m .elements))
   pub sized : every sizedPoint (m .points) ≡ true
   pub upright : (t : Tet) → List·Memᴰ t (m .elements) → lt zero64 (determinantOf (m .points) t) ≡ true
@@ -74,8 +73,8 @@ module _ (m : Mesh) (S : Sound m) where
       le-trans (smaller-right tenth (lowestOf (measure (m .points)) (m .elements)) tenth-exact lowest-exact)
       (lowest-least (map (scoreOf (m .points)) (m .elements)) all-exact (Memᴰ·map (scoreOf (m .points)) i))
 
-  start-kept : Kept (length (m .parameters)) (map verticesOf (m .elements)) (measure (m .points)) (floorUnits m) (record { elements = m .elements; replaced = [] })
-  start-kept = record { run = start; above = S .upright; floor = λ t i. floor-of (floorUnits m) 0 (scoreOf (m .points) t) (floor-score t i) }
+  start-kept : Kept (size m) (map verticesOf (m .elements)) (measure (m .points)) (floorUnits m) (record { elements = m .elements; replaced = [] })
+  start-kept = record { run = start; above = S .upright; floor = λ t i. floor-of (floorUnits m) 0 (scoreOf (m .points) t) (floor-score t i); gone = λ v i t j. absurd (mem-nil v i) }
 
 -- ---- the end
 
@@ -99,7 +98,7 @@ improve-made o m n count h = by (eqb (endNumber (renumbered m (last o m .element
     by false e h = absurd (let z : _≡_ {A = ℕ} 0 1 = cc in omega arith)
 
 module _ (o : Options) (m : Mesh) (S : Sound m) (d : Distinct o (m .parameters)) where
-  last-kept : Kept (length (m .parameters)) (map verticesOf (m .elements)) (measure (m .points)) (floorUnits m) (last o m)
+  pub last-kept : Kept (size m) (map verticesOf (m .elements)) (measure (m .points)) (floorUnits m) (last o m)
   last-kept =
       rounds-kept o m (measure (m .points)) (map verticesOf (m .elements)) (floorUnits m) (subst (λ n. Proper n (map verticesOf (m .elements))) (sym (S .counted)) (S .proper)) d (scores-exact (m .points) (S .sized)) (floor-tenth m S)
       (o .passes) (record { elements = m .elements; replaced = [] }) (start-kept m S)
@@ -107,7 +106,7 @@ module _ (o : Options) (m : Mesh) (S : Sound m) (d : Distinct o (m .parameters))
   last-run : Run (length (m .points)) (map verticesOf (m .elements)) (length (uses (last o m .elements))) (map verticesOf (map (imageOf (placeOf (uses (last o m .elements)))) (last o m .elements)))
   last-run =
       subst (λ k. Run k (map verticesOf (m .elements)) (length (uses (last o m .elements))) (map verticesOf (map (imageOf (placeOf (uses (last o m .elements)))) (last o m .elements)))) (S .counted)
-      (then (last-kept .run) (renumber-step (length (m .parameters)) (last o m .elements)))
+      (then (last-kept .run) (renumber-step (size m) (last o m .elements)))
 
   renumbered-keeps : endNumber (renumbered m (last o m .elements)) ≡ 0 → Keeps m (renumbered m (last o m .elements)) (length (last o m .replaced))
   unfolding renumbered
@@ -127,9 +126,27 @@ module _ (o : Options) (m : Mesh) (S : Sound m) (d : Distinct o (m .parameters))
             (subst (λ x. Exact x × Floor (floorUnits m) (length (last o m .replaced)) x) (sym (points-kept (m .points) ts (r .1) score)) (scores-exact (m .points) (S .sized) (r .0), last-kept .floor (r .0) (r .1)));
       }
 
+  renumbered-sound : endNumber (renumbered m (last o m .elements)) ≡ 0 → Sound (renumbered m (last o m .elements))
+  unfolding renumbered
+  renumbered-sound e =
+      let ts = last o m .elements in
+      let new = map verticesOf (map (imageOf (placeOf (uses ts))) ts) in
+      record {
+        counted = length-map (uses ts) (pointAt (m .parameters)) ∙ sym (length-map (uses ts) (pointAt (m .points)));
+        proper = subst (λ k. Proper k new) (sym (length-map (uses ts) (pointAt (m .points)))) (run-keeps (length (m .points)) (map verticesOf (m .elements)) (S .proper) last-run .0);
+        sized = taken-sized (m .points) (S .sized) (uses ts);
+        upright = renumbered-keeps e .determinants;
+      }
+
 -- an `improve` that makes a mesh keeps the alternating count, makes each triangle lie in one element or in two with opposite parity, leaves
 -- every determinant above 0, and each score at least the smaller of 0.1 and the lowest at the start, less 2e-12 for each vertex replaced
 pub improve-keeps : (o : Options) (m n : Mesh) (count : ℕ) → Sound m → Distinct o (m .parameters) → improve o m ≡ made count n → Keeps m n count
 improve-keeps o m n count S d h =
     let r = improve-made o m n count h in
     subst₂ (λ k u. Keeps m u k) (sym (r .counts)) (sym (r .mesh)) (renumbered-keeps o m S d (r .end))
+
+-- and the mesh is sound again
+pub improve-sound : (o : Options) (m n : Mesh) (count : ℕ) → Sound m → Distinct o (m .parameters) → improve o m ≡ made count n → Sound n
+improve-sound o m n count S d h =
+    let r = improve-made o m n count h in
+    subst Sound (sym (r .mesh)) (renumbered-sound o m S d (r .end))

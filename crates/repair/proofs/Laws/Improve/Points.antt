@@ -1,15 +1,15 @@
 -- Points that pass intake's number 12 are within 2 ^ 20, and a vertex past the end is at 0 0 0. So every element's score is finite, not
 -- negative and a whole number of units. Assumes nothing.
-use mathlib.Core.Path.{_≡_, refl, sym, ap, _∙_}
+use mathlib.Core.Path.{_≡_, refl, sym}
 use mathlib.Core.Logic.{inl, inr}
-use mathlib.Core.Bool.{Bool, true, false, cond, _&&_, _||_, true≢false}
-use mathlib.Core.List.{List, [], _∷_}
-use Prim.Native.Nat.{ℕ, zero, suc, _+_, _*_, _^_, _≤_, _<_}
+use mathlib.Core.Bool.{Bool, true, false, _&&_, _||_, true≢false}
+use mathlib.Core.List.{List, [], _∷_, map}
+use Prim.Native.Nat.{ℕ, zero, suc, _*_, _^_, _≤_}
 use native.Mathlib.Nat.{le-of-lt, le-of-eq, mul-le-mul-right}
 use native.Mathlib.Omega.{arith}
 use borrow.Author.Tests.{ltb-true, eqb-true}
 use lib.Dec.{T, ltb, eqb}
-use lib.IntN.{ℤ, pos}
+use lib.IntN.{pos}
 use lib.Ieee.{Float, nan, inf, fin, binary64, up, down, lt, le, eq, fits}
 use lib.Ieee.Fits.{cond-fits, div-fits}
 use Rattle.geometry.specs.declared.point.Point.{Point}
@@ -68,6 +68,19 @@ pub points-near : (ps : List Point) → every sizedPoint ps ≡ true → (v : �
 points-near [] h v = zero-near
 points-near (p ∷ ps) h zero = sized-near p (and-fst (sizedPoint p) (every sizedPoint ps) h)
 points-near (p ∷ ps) h (suc v) = points-near ps (and-snd (sizedPoint p) (every sizedPoint ps) h) v
+
+-- whatever vertices are taken, their points are sized too
+pub taken-sized : (ps : List Point) → every sizedPoint ps ≡ true → (us : List ℕ) → every sizedPoint (map (pointAt ps) us) ≡ true
+taken-sized ps h [] = refl
+taken-sized ps h (u ∷ us) = rw (at ps h u) (taken-sized ps h us)
+  where
+    zero-sized : sizedPoint zeroPoint ≡ true
+    zero-sized = unfold le lt eq in refl
+
+    at : (ps : List Point) → every sizedPoint ps ≡ true → (v : ℕ) → sizedPoint (pointAt ps v) ≡ true
+    at [] h v = zero-sized
+    at (p ∷ ps) h zero = and-fst (sizedPoint p) (every sizedPoint ps) h
+    at (p ∷ ps) h (suc v) = at ps (and-snd (sizedPoint p) (every sizedPoint ps) h) v
 
 -- ---- scores
 

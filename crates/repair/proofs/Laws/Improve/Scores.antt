@@ -1,10 +1,10 @@
 -- Scores in units of 2 ^ -1074: the lowest of a list, the smaller of two, and what the acceptance test of a collapse says of each new
 -- element's score: it is at least the smaller of 0.1 and the lowest old one, less 2e-12. Assumes nothing.
-use mathlib.Core.Path.{_≡_, refl, sym, ap, subst, _∙_}
+use mathlib.Core.Path.{_≡_, refl, sym, subst, _∙_}
 use mathlib.Core.Logic.{inl, inr}
-use mathlib.Core.Bool.{Bool, true, false, not, cond, _&&_, _||_}
-use mathlib.Core.List.{List, [], _∷_, map, List·Memᴰ, List·Memᴰ·head, List·Memᴰ·tail, List·Memᴰ·not-nil, List·Memᴰ·cases-cons, Memᴰ·of-map, Memᴰ·map}
-use Prim.Native.Nat.{ℕ, suc, _+_, _*_, _^_, _≤_, _<_}
+use mathlib.Core.Bool.{Bool, true, false, not, _&&_}
+use mathlib.Core.List.{List, [], _∷_, map, List·Memᴰ, List·Memᴰ·head, List·Memᴰ·tail, List·Memᴰ·not-nil, List·Memᴰ·cases-cons, Memᴰ·of-map}
+use Prim.Native.Nat.{ℕ, suc, _+_, _*_, _^_, _≤_}
 use native.Mathlib.Nat.{le-trans, le-of-lt, le-of-eq, mul-le-mul-left}
 use native.Mathlib.Omega.{arith}
 use borrow.Author.Tests.{ltb-true, ltb-false, not-true}
@@ -12,7 +12,7 @@ use lib.Dec.{T, ltb, lit≤}
 use lib.Ieee.{Float, binary64, lt, fits}
 use Rattle.geometry.specs.Float.{_+₆₄_, one64, smaller}
 use Rattle.geometry.specs.Literals.{tenth, e-12}
-use Rattle.geometry.specs.Units.{unitsOf, NotNegative}
+use Rattle.geometry.specs.Units.{unitsOf}
 use Rattle.geometry.specs.Score.{lowestFrom, lowest}
 use Rattle.geometry.proofs.Laws.Float.Units.{lt-units}
 use Rattle.geometry.proofs.Laws.Float.Tolerance.{tolerance}
@@ -20,7 +20,7 @@ use Rattle.mesh.specs.declared.element.Tet.{Tet}
 use Rattle.mesh.specs.Tests.{every}
 use Rattle.mesh.proofs.Laws.Complex.Sets.{split, and-fst, and-snd}
 use Rattle.mesh.proofs.Laws.Link.Members.{every-elim}
-use Rattle.repair.specs.Mesh.{Measure, badCount, lowestOf}
+use Rattle.repair.specs.Mesh.{Measure, lowestOf}
 use Rattle.repair.specs.Improve.{gains}
 use Rattle.repair.specs.Wholeness.{Exact}
 

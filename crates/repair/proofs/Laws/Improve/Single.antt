@@ -2,8 +2,8 @@
 -- (a, b), wherever `mayGo` lets it go. Assumes nothing.
 use mathlib.Core.Path.{_≡_, refl, sym, ap, subst, subst₂, _∙_}
 use mathlib.Core.Logic.{inl, inr}
-use mathlib.Core.Bool.{Bool, true, false, not, cond, _&&_, true≢false}
-use mathlib.Core.List.{List, [], _∷_, map}
+use mathlib.Core.Bool.{Bool, true, false, cond, _&&_, true≢false}
+use mathlib.Core.List.{List, [], _∷_}
 use Prim.Native.Nat.{ℕ, zero, suc, _+_, _≤_, _<_}
 use native.Mathlib.Omega.{arith}
 use borrow.Author.Tests.{eqb-true, eqb-false, eq-eqb}
@@ -13,11 +13,11 @@ use Rattle.geometry.specs.declared.point.Point.{Point}
 use Rattle.geometry.specs.declared.bounds.Options.{Options}
 use Rattle.geometry.specs.declared.bounds.Ranks.{Ranks}
 use Rattle.mesh.specs.Complex.{mem, keep}
-use Rattle.mesh.specs.Tests.{every, nodup}
+use Rattle.mesh.specs.Tests.{every}
 use Rattle.mesh.specs.Element.{pair}
 use Rattle.mesh.specs.Group.{numbers, sameRanks, rankOf, groupOf}
 use Rattle.mesh.specs.declared.element.Pair.{Pair}
-use Rattle.mesh.proofs.Laws.Complex.Sets.{split, nope, clash, and-fst, and-snd}
+use Rattle.mesh.proofs.Laws.Complex.Sets.{split, nope, and-fst, and-snd}
 use Rattle.repair.specs.Mesh.{Mesh, Measure}
 use Rattle.repair.specs.Improve.{State, capOf, stratumRule, activeGroup, partner, partners, pairOff, pairOk, about, collapsed, gains, pairsFor, mayGo}
 
@@ -61,7 +61,7 @@ ranks-sound r s h =
     join : (a b c a′ b′ c′ : ℕ) → a ≡ a′ → b ≡ b′ → c ≡ c′ → _≡_ {A = Ranks} (record { x = a; y = b; z = c }) (record { x = a′; y = b′; z = c′ })
     join a b c a′ b′ c′ p q r = rw (p, q, r) refl
 
-ranks-refl : (r : Ranks) → sameRanks r r ≡ true
+pub ranks-refl : (r : Ranks) → sameRanks r r ≡ true
 ranks-refl r = rw (eq-eqb (r .x) (r .x) refl, eq-eqb (r .y) (r .y) refl, eq-eqb (r .z) (r .z) refl) refl
 
 -- each vertex is alone in its group
@@ -72,9 +72,13 @@ single-group o ps d v l =
 
 -- ---- pairs
 
+-- how many vertices a mesh has
+abbrev pub size : Mesh → ℕ
+size m = length (m .parameters)
+
 module _ (o : Options) (m : Mesh) (d : Distinct o (m .parameters)) where
   -- a vertex that is not replaced is the one member of its group
-  pub single-active : (replaced : List ℕ) (v : ℕ) → v < length (m .parameters) → mem v replaced ≡ false → activeGroup o m replaced v ≡ v ∷ []
+  pub single-active : (replaced : List ℕ) (v : ℕ) → v < size m → mem v replaced ≡ false → activeGroup o m replaced v ≡ v ∷ []
   single-active replaced v l h = rw (single-group o (m .parameters) d v l) (rw h refl)
 
   -- one vertex with one: a pair if their caps are equal
@@ -88,7 +92,7 @@ module _ (o : Options) (m : Mesh) (d : Distinct o (m .parameters)) where
     pub ok : pairOk o m (s .elements) (pair a b) ≡ true
     pub gain : gains μ (about (pair a b ∷ []) (s .elements)) (collapsed (pair a b ∷ []) (about (pair a b ∷ []) (s .elements))) ≡ true
 
-  pub goes : (μ : Measure) (s : State) (a b : ℕ) → a < length (m .parameters) → b < length (m .parameters) → mem a (s .replaced) ≡ false → mem b (s .replaced) ≡ false → mayGo o m μ s a b ≡ true → Goes μ s a b
+  pub goes : (μ : Measure) (s : State) (a b : ℕ) → a < size m → b < size m → mem a (s .replaced) ≡ false → mem b (s .replaced) ≡ false → mayGo o m μ s a b ≡ true → Goes μ s a b
   unfolding mayGo
   goes μ s a b la lb ra rb h = by (eqb (capOf o m a) (capOf o m b)) here (and-snd (stratumRule o m a b) (Rest (pairsFor o m μ s a b)) h)
     where

@@ -1,17 +1,13 @@
 -- Where `improve` makes a mesh, each triangle of it lies in one element, or in two with opposite parity. Assumes nothing.
-use mathlib.Core.Path.{_≡_, refl, sym, ap, subst, _∙_}
+use mathlib.Core.Path.{_≡_}
 use mathlib.Core.Logic.{inl, inr}
-use mathlib.Core.Bool.{Bool, true, false, cond}
 use mathlib.Core.List.{List, List·Memᴰ}
-use Prim.Native.Nat.{ℕ}
-use native.Mathlib.Omega.{arith}
 use borrow.Author.Tests.{eqb-true, eqb-false}
 use lib.Dec.{eqb}
 use Rattle.mesh.specs.declared.element.Tet.{Tet}
 use Rattle.mesh.specs.declared.element.Triple.{Triple}
 use Rattle.mesh.specs.Element.{keyOf}
 use Rattle.mesh.specs.Boundary.{allFaces, withKey, boundaryNumber}
-use Rattle.mesh.specs.Manifold.{nonmanifold}
 use Rattle.mesh.specs.Surface
 use Rattle.mesh.proofs.Laws.Complex.Sets.{split}
 use Rattle.mesh.proofs.Laws.Boundary.Meaning.{fine}

@@ -1,23 +1,22 @@
 -- Numbering by first use: different numbers for different vertices of the elements, all below the new count, and each vertex keeps its
 -- point. So the renumbered elements are a step further, and their determinants and scores are those before. Assumes nothing.
 use mathlib.Core.Path.{_≡_, refl, sym, ap, subst, _∙_}
-use mathlib.Core.Logic.{_≢_, inl, inr}
-use mathlib.Core.Bool.{Bool, true, false, not, cond, _&&_, _||_, true≢false}
-use mathlib.Core.List.{List, [], _∷_, _++_, map, List·Memᴰ, List·Memᴰ·head, List·Memᴰ·tail, List·Memᴰ·not-nil, List·Memᴰ·cases-cons, Memᴰ·of-map, Memᴰ·map}
-use Prim.Native.Nat.{ℕ, zero, suc, _+_, _≤_, _<_}
+use mathlib.Core.Logic.{inl, inr}
+use mathlib.Core.Bool.{true, not}
+use mathlib.Core.List.{List, [], _∷_, _++_, map, List·Memᴰ, List·Memᴰ·not-nil, List·Memᴰ·cases-cons, Memᴰ·of-map}
+use Prim.Native.Nat.{ℕ, _<_}
 use native.Mathlib.Omega.{arith}
-use borrow.Author.Tests.{eqb-true, eqb-false, eq-eqb, ne-eqb}
+use borrow.Author.Tests.{eqb-true, eqb-false}
 use lib.Dec.{eqb}
 use lib.ListN.{length, getD}
 use Rattle.geometry.specs.declared.point.Point.{Point}
 use Rattle.mesh.specs.declared.element.Tet.{Tet}
 use Rattle.mesh.specs.Words.{pointAt, zeroPoint}
-use Rattle.mesh.specs.Complex.{mem, within, keep, Sub, Proper}
+use Rattle.mesh.specs.Complex.{mem, within}
 use Rattle.mesh.specs.Moves.{Renumbers, renumber, Step, renumbers}
-use Rattle.mesh.specs.Element.{tet, verticesOf}
-use Rattle.mesh.proofs.Laws.Complex.Sets.{split, or-cases, or-left, or-right, mem-here, mem-there, mem-cases, mem-nil, within-elim, keep-mem}
-use Rattle.repair.specs.Mesh.{Mesh, determinantOf, scoreOf}
-use Rattle.repair.specs.Improve.{imageOf, allVertices, firstUses, placeOf, renumbered}
+use Rattle.mesh.specs.Element.{verticesOf}
+use Rattle.mesh.proofs.Laws.Complex.Sets.{split, mem-here, mem-there, mem-cases, mem-nil, within-elim, keep-mem}
+use Rattle.repair.specs.Improve.{imageOf, allVertices, firstUses, placeOf}
 
 -- ---- places
 

@@ -1,9 +1,9 @@
-//! The port's boundary from the export crate.
+//! The port's boundary and nonmanifold test from the export crate.
 use crate::bridge::Value;
 use crate::original;
 use crate::unit::Unit;
 
-pub const COMPARED: [&str; 1] = ["boundary"];
+pub const COMPARED: [&str; 2] = ["boundary", "nonmanifold"];
 
 #[rustfmt::skip]
 unsafe extern "C" {
@@ -14,6 +14,12 @@ unsafe extern "C" {
         work: *mut u32, work_len: usize,
         answer: &mut [u32; 2],
     );
+    /// 1 where some vertex of the surface is nonmanifold.
+    fn h_nonmanifold(
+        surface: *const u32, surface_len: usize,
+        vertices: u32,
+        work: *mut u32, work_len: usize,
+    ) -> u32;
 }
 
 pub fn flat<const N: usize>(rows: &[[usize; N]]) -> Vec<u32> {
@@ -55,10 +61,21 @@ fn judge_boundary(tets: &[[usize; 4]]) -> Value {
     Value::Words([head.to_vec(), surface].concat())
 }
 
+fn port_nonmanifold(vertices: usize, surface: &[[usize; 3]]) -> u32 {
+    let triples = flat(surface);
+    let mut area = work(surface.len(), vertices);
+    // Each pointer is that of a live buffer of the length beside it.
+    unsafe {
+        let w = area.as_mut_ptr();
+        h_nonmanifold(triples.as_ptr(), triples.len(), vertices as u32, w, area.len())
+    }
+}
+
 /// What the port gives.
 pub fn port(unit: &Unit) -> Value {
     match unit {
         Unit::Boundary(tets) => port_boundary(tets),
+        Unit::Nonmanifold(n, surface) => Value::Number(port_nonmanifold(*n, surface).into()),
         _ => panic!("{} is not compared here", unit.name()),
     }
 }
@@ -67,6 +84,9 @@ pub fn port(unit: &Unit) -> Value {
 pub fn judge(unit: &Unit) -> Value {
     match unit {
         Unit::Boundary(tets) => judge_boundary(tets),
+        Unit::Nonmanifold(n, surface) => {
+            Value::Number(u64::from(!original::nonmanifold(surface, *n).is_empty()))
+        }
         _ => panic!("{} is not compared here", unit.name()),
     }
 }
