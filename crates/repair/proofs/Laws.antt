@@ -2,4 +2,5 @@
 pub mod Improve
 pub mod Smooth
 pub mod Flip
+pub mod Counts
 pub mod Wholeness
