@@ -2,5 +2,4 @@
 pub mod Improve
 pub mod Smooth
 pub mod Flip
-pub mod Counts
 pub mod Wholeness

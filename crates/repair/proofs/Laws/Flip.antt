@@ -7,3 +7,4 @@ pub mod Listed
 pub mod Face
 pub mod Edge
 pub mod Pass
+pub mod End

@@ -4,3 +4,4 @@ pub mod Sizes
 pub mod Placed
 pub mod Group
 pub mod Pass
+pub mod Count

@@ -66,7 +66,7 @@ flip-whole c s count n h r =
     let p = intake-passed (given (lengthsOf c s) c s) h in
     let S = intake-sound (lengthsOf c s) c s h in
     let near : AllNear (m .points) = points-near (m .points) (S .sized) in
-    let k : Flipped m n = flip-keeps m near (S .proper) (p .boundary) (S .upright) count n r in
+    let k : Flipped m n count = flip-keeps m near (S .proper) (p .boundary) (S .upright) count n r in
     committed-whole s n 0 (record {
       alternates = k .alternates;
       triangles = k .triangles;

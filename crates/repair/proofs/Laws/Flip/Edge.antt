@@ -1,12 +1,12 @@
 -- Three-to-two: an edge of exactly three live elements with three other vertices in all. A turn of `tryEdges` is a flip of the live
 -- elements, or nothing. Assumes nothing.
-use mathlib.Core.Path.{_≡_, refl, sym, ap, ap₂, subst, _∙_}
-use mathlib.Core.Logic.{_≢_, _⊎_, inl, inr, ⊎-elim}
+use mathlib.Core.Path.{_≡_, refl, sym, ap, subst, _∙_}
+use mathlib.Core.Logic.{_≢_, inl, inr}
 use mathlib.Core.Bool.{Bool, true, false, not, cond, _&&_, _||_}
-use mathlib.Core.List.{List, [], _∷_, _++_, map, List·Memᴰ, List·Memᴰ·head, List·Memᴰ·tail, List·Memᴰ·not-nil, List·Memᴰ·cases-cons, Memᴰ·of-map}
-use Prim.Native.Nat.{ℕ, suc, _+_, _≤_, _<_}
+use mathlib.Core.List.{List, [], _∷_, _++_, List·Memᴰ, List·Memᴰ·not-nil, List·Memᴰ·cases-cons, Memᴰ·of-map}
+use Prim.Native.Nat.{ℕ, _≤_}
 use native.Mathlib.Omega.{arith}
-use borrow.Author.Tests.{eqb-true, eq-eqb, leb-true, leb-false, not-true, le-leb, lt-leb}
+use borrow.Author.Tests.{eqb-true, eq-eqb, leb-true, leb-false, not-true, le-leb}
 use lib.Dec.{eqb, leb}
 use lib.ListN.{length, getD}
 use Rattle.geometry.specs.Float.{one64}
@@ -14,14 +14,14 @@ use Rattle.geometry.specs.Units.{unitsOf}
 use Rattle.mesh.specs.declared.element.Pair.{Pair}
 use Rattle.mesh.specs.declared.element.Tet.{Tet}
 use Rattle.mesh.specs.Sort.{sort, before, headed, ordered, elem, unique}
-use Rattle.mesh.specs.Complex.{mem, sub, keep, star, Nodup, Sub, Proper}
+use Rattle.mesh.specs.Complex.{mem, sub, Nodup, Sub}
 use Rattle.mesh.specs.Moves.{Flippable32}
 use Rattle.mesh.specs.Element.{tet, verticesOf}
 use Rattle.mesh.specs.Link.{without}
-use Rattle.mesh.proofs.Laws.Complex.Sets.{split, clash, nope, or-cases, or-left, or-right, and-fst, and-snd, mem-there, mem-nil, out, sub-elim}
+use Rattle.mesh.proofs.Laws.Complex.Sets.{split, clash, nope, or-cases, or-left, or-right, and-fst, and-snd, mem-there, mem-nil, out}
 use Rattle.mesh.proofs.Laws.Sort.{ordered-sort}
 use Rattle.mesh.proofs.Laws.Unique.{elem-unique, unique-rising}
-use Rattle.mesh.proofs.Laws.Link.Members.{kept-elim, kept-intro}
+use Rattle.mesh.proofs.Laws.Link.Members.{kept-intro}
 use Rattle.mesh.proofs.Laws.Link.Simplices.{sort-mem}
 use Rattle.repair.specs.Mesh.{Measure, any}
 use Rattle.repair.specs.Wholeness.{Exact}
@@ -92,7 +92,7 @@ three-of (x ∷ y ∷ z ∷ w ∷ l) h = absurd (omega arith)
 
 module _ (μ : Measure) (exact : (t : Tet) → Exact (μ .score t)) (n F : ℕ) (one : F ≤ unitsOf one64) (es₀ : List (List ℕ)) where
   -- it keeps all
-  pub edge-held : (s : State) (e : Pair) → e .a ≢ e .b → Held μ n F es₀ (s .slots) → Held μ n F es₀ (tryEdge μ s e .slots)
+  pub edge-held : (s : State) (e : Pair) → e .a ≢ e .b → Held μ n F es₀ s → Held μ n F es₀ (tryEdge μ s e)
   unfolding tryEdge
   edge-held s e ab k = go (eqb (length is) 3) (eqb (length others) 3) refl refl
     where
@@ -155,12 +155,12 @@ module _ (μ : Measure) (exact : (t : Tet) → Exact (μ .score t)) (n F : ℕ) 
           (sym (any-within (u ∷ v ∷ w ∷ []) (s .slots)) ∙ h)
 
       last : (x : Bool) → any (slotHas (u ∷ v ∷ w ∷ [])) (s .slots) ≡ x → (any (slotHas (u ∷ v ∷ w ∷ [])) (s .slots) ≡ false → Flippable32 a b u v w (elementsOf (s .slots)))
-          → Held μ n F es₀ (cond x s (replace μ s is (tet u v w (e .a) ∷ tet u v w (e .b) ∷ [])) .slots)
+          → Held μ n F es₀ (cond x s (replace μ s is (tet u v w (e .a) ∷ tet u v w (e .b) ∷ [])))
       last true h c = k
       last false h c =
           replace-held μ exact n F one es₀ s σ (tet u v w (e .a) ∷ tet u v w (e .b) ∷ []) k (flipped32 μ n a b u v w (elementsOf (s .slots)) (k .proper) (k .thin) (c h))
 
-      go : (x y : Bool) → eqb (length is) 3 ≡ x → eqb (length others) 3 ≡ y → Held μ n F es₀ (cond (x && y) (threeToTwo μ s e is u v w) s .slots)
+      go : (x y : Bool) → eqb (length is) 3 ≡ x → eqb (length others) 3 ≡ y → Held μ n F es₀ (cond (x && y) (threeToTwo μ s e is u v w) s)
       go false y g h = k
       go true false g h = k
       go true true g h = last (any (slotHas (u ∷ v ∷ w ∷ [])) (s .slots)) refl (may (eqb-true (length is) 3 g) (eqb-true (length others) 3 h))

@@ -2,7 +2,7 @@
 -- a triangle. So a turn of `tryFaces` is a flip of the live elements, or nothing. Assumes nothing.
 use mathlib.Core.Path.{_≡_, refl, sym, ap, ap₂, subst, _∙_}
 use mathlib.Core.Logic.{_⊎_, inl, inr, ⊎-elim}
-use mathlib.Core.Bool.{Bool, true, false, not, cond, _&&_}
+use mathlib.Core.Bool.{Bool, true, false, cond, _&&_}
 use mathlib.Core.List.{List, [], _∷_, _++_, map, List·Memᴰ, List·Memᴰ·head, List·Memᴰ·tail, List·Memᴰ·not-nil, List·Memᴰ·cases-cons}
 use mathlib.Core.Option.{Option, none, some}
 use Prim.Native.Nat.{ℕ, zero, suc, _+_, _-_, _≤_, _<_}
@@ -15,12 +15,11 @@ use Rattle.geometry.specs.Float.{one64}
 use Rattle.geometry.specs.Units.{unitsOf}
 use Rattle.mesh.specs.declared.element.Triple.{Triple}
 use Rattle.mesh.specs.declared.element.Tet.{Tet}
-use Rattle.mesh.specs.Complex.{sub, keep, star, Nodup, Proper}
-use Rattle.mesh.specs.Moves.{Flippable23}
+use Rattle.mesh.specs.Complex.{keep, Nodup, Proper}
 use Rattle.mesh.specs.Element.{tet, verticesOf, cornersOf}
 use Rattle.mesh.specs.Link.{without}
 use Rattle.mesh.specs.Group.{numbers}
-use Rattle.mesh.proofs.Laws.Complex.Sets.{split, clash, and-fst, and-snd}
+use Rattle.mesh.proofs.Laws.Complex.Sets.{split}
 use Rattle.mesh.proofs.Laws.Link.Members.{kept-elim, kept-intro}
 use Rattle.mesh.proofs.Laws.Link.Closed.{AtMostTwo}
 use Rattle.mesh.proofs.Laws.Boundary.Same.{length-map}
@@ -148,9 +147,9 @@ module _ (n : ℕ) (u v w : ℕ) (d : Nodup (u ∷ v ∷ w ∷ [])) (ts : List T
   one-apex : (t : Tet) → List·Memᴰ t (live ss) → hasAll face t ≡ true → length (without face (verticesOf t)) ≡ 1
   one-apex t m h = let r = length-without n face (verticesOf t) (element-of n t (live ss) P m) d h in omega arith
 
-  -- two owners at the start with two apexes now: the owners now
-  same-numbers : length starters ≡ 2 → length (besides face (elementsAt ss starters)) ≡ 2 → starters ≡ numbersWith face ss
-  same-numbers two apexes =
+  -- a face with two owners at the start, both still live: they are its owners now, so that no element made since has it
+  pub owners-of-start : length starters ≡ 2 → length (besides face (elementsAt ss starters)) ≡ 2 → starters ≡ numbersWith face ss
+  owners-of-start two apexes =
       ap (λ k. keep p (numbers 0 k)) (length-map some ts)
       ∙ squeezed p q (numbers (0 + length ts) (length ss - length ts)) (numbers 0 (length ts)) kept (subst (λ l. length (keep q l) ≤ length (keep p (numbers 0 (length ts)))) split-numbers few)
       ∙ ap (keep q) (sym split-numbers)
@@ -198,38 +197,48 @@ two-of (s ∷ t ∷ []) h = (s, t, refl)
 two-of (s ∷ t ∷ x ∷ l) h = absurd (omega arith)
 
 module _ (μ : Measure) (exact : (t : Tet) → Exact (μ .score t)) (n F : ℕ) (one : F ≤ unitsOf one64) (es₀ : List (List ℕ)) where
-  two-held : (s : State) (f : Triple) → Held μ n F es₀ (s .slots) → Nodup (cornersOf f) → length (numbersWith (cornersOf f) (s .slots)) ≡ 2 → (cs : List ℕ)
-      → cs ≡ besides (cornersOf f) (elementsAt (s .slots) (numbersWith (cornersOf f) (s .slots)))
-      → Held μ n F es₀ (twoToThree μ s f (numbersWith (cornersOf f) (s .slots)) (getD cs 0 0) (getD cs 1 0) .slots)
-  unfolding besides
-  two-held s f k d two cs e =
-      let ss = s .slots in
-      let σ = cornersOf f in
-      let r = two-of (keep (hasAll σ) (live ss)) (sym (length-with σ ss) ∙ two) in
-      let t₁ = r .0 in
-      let t₂ = r .1 in
-      let m₁ = kept-elim (hasAll σ) (live ss) (subst (List·Memᴰ t₁) (sym (r .2)) (List·Memᴰ·head refl)) in
-      let m₂ = kept-elim (hasAll σ) (live ss) (subst (List·Memᴰ t₂) (sym (r .2)) (List·Memᴰ·tail (List·Memᴰ·head refl))) in
-      let a = one-of (without σ (verticesOf t₁)) (apex t₁ (m₁ .0) (m₁ .1)) in
-      let b = one-of (without σ (verticesOf t₂)) (apex t₂ (m₂ .0) (m₂ .1)) in
-      let E : cs ≡ a .0 ∷ b .0 ∷ [] = e ∙ ap (besides σ) (elements-with σ ss ∙ r .2) ∙ ap₂ (λ x y. x ++ (y ++ [])) (a .1) (b .1) in
-      subst (λ l. Held μ n F es₀ (twoToThree μ s f (numbersWith σ ss) (getD l 0 0) (getD l 1 0) .slots)) (sym E)
-      (go (a .0) (b .0) (any (slotHas (a .0 ∷ b .0 ∷ [])) ss) refl
-      (λ h. flippable23 n (f .a) (f .b) (f .c) (live ss) (k .proper) d t₁ t₂ (r .2) (a .0) (b .0) (a .1) (b .1) (sym (any-within (a .0 ∷ b .0 ∷ []) ss) ∙ h)))
-    where
-      apex : (t : Tet) → List·Memᴰ t (live (s .slots)) → hasAll (cornersOf f) t ≡ true → length (without (cornersOf f) (verticesOf t)) ≡ 1
-      apex t m h = let r = length-without n (cornersOf f) (verticesOf t) (element-of n t (live (s .slots)) (k .proper) m) d h in omega arith
+  -- the two owners t₁ and t₂, with their apexes a and b
+  module _ (s : State) (f : Triple) (k : Held μ n F es₀ s) (d : Nodup (cornersOf f)) where
+    owned : (t₁ t₂ : Tet) → keep (hasAll (cornersOf f)) (live (s .slots)) ≡ t₁ ∷ t₂ ∷ [] → (a b : ℕ) → without (cornersOf f) (verticesOf t₁) ≡ a ∷ [] → without (cornersOf f) (verticesOf t₂) ≡ b ∷ []
+        → Held μ n F es₀ (twoToThree μ s f (numbersWith (cornersOf f) (s .slots)) a b)
+    owned t₁ t₂ two a b apexA apexB = go (any (slotHas (a ∷ b ∷ [])) (s .slots)) refl
+      where
+        go : (x : Bool) → any (slotHas (a ∷ b ∷ [])) (s .slots) ≡ x
+            → Held μ n F es₀ (cond x s (replace μ s (numbersWith (cornersOf f) (s .slots)) (tet a b (f .a) (f .b) ∷ tet a b (f .b) (f .c) ∷ tet a b (f .c) (f .a) ∷ [])))
+        go true h = k
+        go false h =
+            replace-held μ exact n F one es₀ s (cornersOf f) (tet a b (f .a) (f .b) ∷ tet a b (f .b) (f .c) ∷ tet a b (f .c) (f .a) ∷ []) k
+            (flipped23 μ n a b (f .a) (f .b) (f .c) (elementsOf (s .slots)) (k .proper) (k .thin)
+            (flippable23 n (f .a) (f .b) (f .c) (live (s .slots)) (k .proper) d t₁ t₂ two a b apexA apexB (sym (any-within (a ∷ b ∷ []) (s .slots)) ∙ h)))
 
-      go : (a b : ℕ) (x : Bool) → any (slotHas (a ∷ b ∷ [])) (s .slots) ≡ x
-          → (any (slotHas (a ∷ b ∷ [])) (s .slots) ≡ false → Flippable23 a b (f .a) (f .b) (f .c) (elementsOf (s .slots)))
-          → Held μ n F es₀ (cond x s (replace μ s (numbersWith (cornersOf f) (s .slots)) (tet a b (f .a) (f .b) ∷ tet a b (f .b) (f .c) ∷ tet a b (f .c) (f .a) ∷ [])) .slots)
-      go a b true h c = k
-      go a b false h c =
-          replace-held μ exact n F one es₀ s (cornersOf f) (tet a b (f .a) (f .b) ∷ tet a b (f .b) (f .c) ∷ tet a b (f .c) (f .a) ∷ []) k
-          (flipped23 μ n a b (f .a) (f .b) (f .c) (elementsOf (s .slots)) (k .proper) (k .thin) (c h))
+    apex : (t : Tet) → List·Memᴰ t (keep (hasAll (cornersOf f)) (live (s .slots))) → (c : ℕ) × (without (cornersOf f) (verticesOf t) ≡ c ∷ [])
+    apex t m =
+        let q = kept-elim (hasAll (cornersOf f)) (live (s .slots)) m in
+        let l = length-without n (cornersOf f) (verticesOf t) (element-of n t (live (s .slots)) (k .proper) (q .0)) d (q .1) in
+        one-of (without (cornersOf f) (verticesOf t)) (omega arith)
+
+    apexes : (t₁ t₂ : Tet) → keep (hasAll (cornersOf f)) (live (s .slots)) ≡ t₁ ∷ t₂ ∷ [] → (cs : List ℕ)
+        → cs ≡ besides (cornersOf f) (elementsAt (s .slots) (numbersWith (cornersOf f) (s .slots))) → (a b : ℕ) → without (cornersOf f) (verticesOf t₁) ≡ a ∷ []
+        → without (cornersOf f) (verticesOf t₂) ≡ b ∷ [] → cs ≡ a ∷ b ∷ []
+    unfolding besides
+    apexes t₁ t₂ two cs e a b apexA apexB = e ∙ ap (besides (cornersOf f)) (elements-with (cornersOf f) (s .slots) ∙ two) ∙ ap₂ (λ x y. x ++ (y ++ [])) apexA apexB
+
+    two-held : length (numbersWith (cornersOf f) (s .slots)) ≡ 2 → (cs : List ℕ) → cs ≡ besides (cornersOf f) (elementsAt (s .slots) (numbersWith (cornersOf f) (s .slots)))
+        → Held μ n F es₀ (twoToThree μ s f (numbersWith (cornersOf f) (s .slots)) (getD cs 0 0) (getD cs 1 0))
+    two-held two cs e = with-owners (two-of (keep (hasAll (cornersOf f)) (live (s .slots))) (sym (length-with (cornersOf f) (s .slots)) ∙ two))
+      where
+        with-apexes : (t₁ t₂ : Tet) → keep (hasAll (cornersOf f)) (live (s .slots)) ≡ t₁ ∷ t₂ ∷ [] → (c : ℕ) × (without (cornersOf f) (verticesOf t₁) ≡ c ∷ [])
+            → (c : ℕ) × (without (cornersOf f) (verticesOf t₂) ≡ c ∷ []) → Held μ n F es₀ (twoToThree μ s f (numbersWith (cornersOf f) (s .slots)) (getD cs 0 0) (getD cs 1 0))
+        with-apexes t₁ t₂ h (a, p) (b, q) =
+            subst (λ l. Held μ n F es₀ (twoToThree μ s f (numbersWith (cornersOf f) (s .slots)) (getD l 0 0) (getD l 1 0))) (sym (apexes t₁ t₂ h cs e a b p q)) (owned t₁ t₂ h a b p q)
+
+        with-owners : (t₁ : Tet) × (t₂ : Tet) × (keep (hasAll (cornersOf f)) (live (s .slots)) ≡ t₁ ∷ t₂ ∷ [])
+            → Held μ n F es₀ (twoToThree μ s f (numbersWith (cornersOf f) (s .slots)) (getD cs 0 0) (getD cs 1 0))
+        with-owners (t₁, t₂, h) =
+            with-apexes t₁ t₂ h (apex t₁ (subst (List·Memᴰ t₁) (sym h) (List·Memᴰ·head refl))) (apex t₂ (subst (List·Memᴰ t₂) (sym h) (List·Memᴰ·tail (List·Memᴰ·head refl))))
 
   -- it keeps all
-  pub face-held : (ts : List Tet) (s : State) (f : Triple) → Nodup (cornersOf f) → Aged ts (s .slots) → Held μ n F es₀ (s .slots) → Held μ n F es₀ (tryFace μ ts s f .slots)
+  pub face-held : (ts : List Tet) (s : State) (f : Triple) → Nodup (cornersOf f) → Aged ts (s .slots) → Held μ n F es₀ s → Held μ n F es₀ (tryFace μ ts s f)
   unfolding tryFace
   face-held ts s f d aged k = go (eqb (length is) 2) (eqb (length cs) 2) refl refl
     where
@@ -239,13 +248,13 @@ module _ (μ : Measure) (exact : (t : Tet) → Exact (μ .score t)) (n F : ℕ) 
       cs : List ℕ
       cs = besides (cornersOf f) (elementsAt (s .slots) is)
 
-      go : (x y : Bool) → eqb (length is) 2 ≡ x → eqb (length cs) 2 ≡ y → Held μ n F es₀ (cond (x && y) (twoToThree μ s f is (getD cs 0 0) (getD cs 1 0)) s .slots)
+      go : (x y : Bool) → eqb (length is) 2 ≡ x → eqb (length cs) 2 ≡ y → Held μ n F es₀ (cond (x && y) (twoToThree μ s f is (getD cs 0 0) (getD cs 1 0)) s)
       go false y g h = k
       go true false g h = k
       go true true g h =
           let two : length is ≡ 2 = eqb-true (length is) 2 g in
-          let e : is ≡ numbersWith (cornersOf f) (s .slots) = same-numbers n (f .a) (f .b) (f .c) d ts (s .slots) aged (k .proper) (k .thin) two (eqb-true (length cs) 2 h) in
-          subst (λ l. Held μ n F es₀ (twoToThree μ s f l (getD cs 0 0) (getD cs 1 0) .slots)) (sym e)
+          let e : is ≡ numbersWith (cornersOf f) (s .slots) = owners-of-start n (f .a) (f .b) (f .c) d ts (s .slots) aged (k .proper) (k .thin) two (eqb-true (length cs) 2 h) in
+          subst (λ l. Held μ n F es₀ (twoToThree μ s f l (getD cs 0 0) (getD cs 1 0))) (sym e)
           (two-held s f k d (ap length (sym e) ∙ two) cs (ap (λ l. besides (cornersOf f) (elementsAt (s .slots) l)) e))
 
   -- and the numbers of the start

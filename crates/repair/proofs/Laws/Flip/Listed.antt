@@ -1,7 +1,7 @@
 -- What is listed: a listed face has its three vertices in rising order, and a listed edge two different ones. Assumes nothing.
-use mathlib.Core.Path.{_≡_, refl, sym, ap}
-use mathlib.Core.Logic.{_≢_, inl, inr}
-use mathlib.Core.Bool.{Bool, true, false, not, cond, _&&_}
+use mathlib.Core.Path.{_≡_, refl, ap}
+use mathlib.Core.Logic.{_≢_}
+use mathlib.Core.Bool.{Bool, true, false, not, cond}
 use mathlib.Core.List.{List, [], _∷_, map, List·Memᴰ, List·Memᴰ·head, List·Memᴰ·tail}
 use Prim.Native.Nat.{ℕ, min, max}
 use native.Mathlib.Omega.{arith}
@@ -11,11 +11,11 @@ use Rattle.mesh.specs.declared.element.Pair.{Pair}
 use Rattle.mesh.specs.declared.element.Triple.{Triple}
 use Rattle.mesh.specs.declared.element.Tet.{Tet}
 use Rattle.mesh.specs.Sort.{sort, unique, uniqueAfter}
-use Rattle.mesh.specs.Complex.{keep, Nodup}
+use Rattle.mesh.specs.Complex.{keep}
 use Rattle.mesh.specs.Tests.{every}
-use Rattle.mesh.specs.Element.{facesOf, verticesOf, cornersOf, keyOf, samePair}
+use Rattle.mesh.specs.Element.{facesOf, cornersOf, keyOf, samePair}
 use Rattle.mesh.specs.Boundary.{sameTriple, leTriple, allFaces}
-use Rattle.mesh.proofs.Laws.Complex.Sets.{split, and-fst, and-snd, out-head, out-tail}
+use Rattle.mesh.proofs.Laws.Complex.Sets.{and-fst, and-snd, out-head, out-tail}
 use Rattle.mesh.proofs.Laws.Link.Members.{kept-elim}
 use Rattle.mesh.proofs.Laws.Link.Simplices.{rising}
 use Rattle.mesh.proofs.Laws.Link.Keys.{Fours, key-rising, face-nodup}
@@ -45,7 +45,8 @@ kept-fours μ ts d t m = d t (kept-elim (isBad μ) ts m .0)
 
 -- ---- faces
 
-keys-rise : (ts : List Tet) → Fours ts → every (λ f. rising (cornersOf f)) (map keyOf (allFaces ts)) ≡ true
+-- the corners of every face's key rise
+pub keys-rise : (ts : List Tet) → Fours ts → every (λ f. rising (cornersOf f)) (map keyOf (allFaces ts)) ≡ true
 unfolding allFaces
 keys-rise [] d = refl
 keys-rise (t ∷ ts) d = rw (at₀, at₁, at₂, at₃) (keys-rise ts (λ u m. d u (List·Memᴰ·tail m)))

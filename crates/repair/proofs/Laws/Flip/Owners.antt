@@ -5,30 +5,29 @@ use mathlib.Core.Path.{_≡_, refl, sym, ap, subst, _∙_}
 use mathlib.Core.Logic.{_≢_, inl, inr}
 use mathlib.Core.Bool.{Bool, true, false, not, _&&_, _||_}
 use mathlib.Core.List.{List, [], _∷_, _++_, map, List·Memᴰ, List·Memᴰ·head, List·Memᴰ·tail, List·Memᴰ·not-nil, List·Memᴰ·cases-cons}
-use Prim.Native.Nat.{ℕ, suc, _+_, _≤_}
-use native.Mathlib.Nat.{le-trans}
+use Prim.Native.Nat.{ℕ, _+_, _≤_}
 use native.Mathlib.Omega.{arith}
 use borrow.Author.Tests.{eq-eqb, ne-eqb, not-true}
 use lib.Dec.{eqb}
 use lib.ListN.{length}
 use Rattle.mesh.specs.declared.element.Tet.{Tet}
-use Rattle.mesh.specs.Complex.{mem, sub, within, keep, star, Nodup, Sub, IsElement, Proper, SameCount}
+use Rattle.mesh.specs.Complex.{mem, sub, within, keep, star, Nodup, Sub, IsElement, Proper}
 use Rattle.mesh.specs.Moves.{Flippable23, Flippable32}
 use Rattle.mesh.specs.Tests.{every}
 use Rattle.mesh.specs.Element.{tet, verticesOf}
 use Rattle.mesh.specs.Link.{without}
-use Rattle.mesh.proofs.Laws.Complex.Sets.{split, clash, nope, and-fst, and-snd, mem-here, mem-there, mem-cases, mem-nil, out, out-head, out-tail, apart, Sub-cons, sub-elim, sub-intro, within-elim, within-intro, short, full, keep-mem, keep-nodup}
+use Rattle.mesh.proofs.Laws.Complex.Sets.{split, clash, nope, and-fst, and-snd, mem-here, mem-there, mem-cases, mem-nil, out, out-head, out-tail, Sub-cons, sub-elim, within-elim, within-intro, short, full, keep-mem, keep-nodup}
 use Rattle.mesh.proofs.Laws.Complex.Lists.{keep-split}
 use Rattle.mesh.proofs.Laws.Complex.Same.{proper-keep}
 use Rattle.mesh.proofs.Laws.Complex.Tets.{tet-of, whole}
 use Rattle.mesh.proofs.Laws.Complex.Flip.{flip23-proper, flip23-count, flip32-proper, flip32-count}
-use Rattle.mesh.proofs.Laws.Link.Members.{kept-elim, kept-intro}
+use Rattle.mesh.proofs.Laws.Link.Members.{kept-elim}
 use Rattle.mesh.proofs.Laws.Boundary.Same.{keep-map, length-map}
 use Rattle.mesh.proofs.Laws.Link.Closed.{AtMostTwo}
 use Rattle.repair.specs.Mesh.{Measure}
 use Rattle.repair.specs.Flip.{hasAll, oriented}
 use Rattle.repair.proofs.Laws.Flip.Triangles.{lose, star-none, thin23, thin32}
-use Rattle.repair.proofs.Laws.Flip.Replace.{AsGood, turned, all-turned, rearranged}
+use Rattle.repair.proofs.Laws.Flip.Replace.{AsGood, two-to-three, three-to-two, turned, all-turned, rearranged}
 
 -- ---- vertices besides σ
 
@@ -298,6 +297,7 @@ module _ (μ : Measure) (n a b u v w : ℕ) (es : List (List ℕ)) (P : Proper n
       record {
         proper = r .0;
         count = omega arith;
+        flip = two-to-three a b u v w c (r .2);
         thin = thin23 a b u v w (c .five) es c thin (verticesOf (oriented μ (tet a b u v))) (verticesOf (oriented μ (tet a b v w))) (verticesOf (oriented μ (tet a b w u)))
             (turned μ (tet a b u v) .alike) (turned μ (tet a b v w) .alike) (turned μ (tet a b w u) .alike);
       }
@@ -313,5 +313,6 @@ module _ (μ : Measure) (n a b u v w : ℕ) (es : List (List ℕ)) (P : Proper n
       record {
         proper = r .0;
         count = omega arith;
+        flip = three-to-two a b u v w c (r .2);
         thin = thin32 a b u v w (c .five) es c thin (verticesOf (oriented μ (tet u v w a))) (verticesOf (oriented μ (tet u v w b))) (turned μ (tet u v w a) .alike) (turned μ (tet u v w b) .alike);
       }

@@ -1,14 +1,14 @@
 -- One accepted replacement: every new determinant is above 0 and every new score at least the floor, and where the new list of elements is
 -- a flip of the old one but for the order, it is as good as that. Assumes nothing.
-use mathlib.Core.Path.{_≡_, refl, sym, ap, ap₂, subst, _∙_}
-use mathlib.Core.Logic.{_⊎_, inl, inr, ⊎-elim}
-use mathlib.Core.Bool.{Bool, true, false, not, cond, _&&_, _||_}
+use mathlib.Core.Path.{_≡_, refl, sym, ap, subst, _∙_}
+use mathlib.Core.Logic.{inl, inr}
+use mathlib.Core.Bool.{Bool, true, false, not, cond, _||_}
 use mathlib.Core.List.{List, [], _∷_, _++_, map, List·Memᴰ, List·Memᴰ·head, List·Memᴰ·tail, List·Memᴰ·not-nil, List·Memᴰ·cases-cons, Memᴰ·append-left, Memᴰ·append-right, List·Memᴰ·append-cases}
 use mathlib.Core.Option.{Option, some}
 use Prim.Native.Nat.{ℕ, _+_, _≤_}
 use native.Mathlib.Nat.{le-trans}
 use native.Mathlib.Omega.{arith}
-use lib.Dec.{eqb, leb}
+use lib.Dec.{eqb}
 use lib.Ieee.{lt}
 use lib.ListN.{length, length-append}
 use Rattle.geometry.specs.Float.{_+₆₄_, one64}
@@ -16,18 +16,19 @@ use Rattle.geometry.specs.Literals.{e-10}
 use Rattle.geometry.specs.Units.{unitsOf}
 use Rattle.mesh.specs.declared.element.Tet.{Tet}
 use Rattle.mesh.specs.Complex.{mem, sub, within, keep, Nodup, Sub, IsElement, Proper, SameCount, SameComplex}
+use Rattle.mesh.specs.Moves.{flip23, flip32, Flippable23, Flippable32}
 use Rattle.mesh.specs.Tests.{every}
 use Rattle.mesh.specs.Element.{tet, verticesOf}
 use Rattle.mesh.proofs.Laws.Bools.{or-swap}
-use Rattle.mesh.proofs.Laws.Complex.Sets.{split, clash, nope, and-fst, and-snd, out, out-head, sub-intro, within-intro}
+use Rattle.mesh.proofs.Laws.Complex.Sets.{and-fst, and-snd, out, out-head, within-intro}
 use Rattle.mesh.proofs.Laws.Complex.Same.{same-proper, same-count}
 use Rattle.mesh.proofs.Laws.Complex.Tets.{tet-of}
 use Rattle.mesh.proofs.Laws.Link.Members.{kept-elim, every-elim}
 use Rattle.mesh.proofs.Laws.Boundary.Same.{keep-map}
 use Rattle.mesh.proofs.Laws.Link.Closed.{AtMostTwo}
-use Rattle.repair.specs.Mesh.{Measure, badCount, lowestOf}
+use Rattle.repair.specs.Mesh.{Measure, lowestOf}
 use Rattle.repair.specs.Wholeness.{Exact}
-use Rattle.repair.specs.Flip.{State, hasAll, slotHas, live, numbersWith, elementsAt, emptied, oriented, accepted, replace}
+use Rattle.repair.specs.Flip.{State, hasAll, live, numbersWith, elementsAt, emptied, oriented, accepted, replace}
 use Rattle.repair.proofs.Laws.Smooth.Scores.{above-exact, lowest-exact, lowest-under, lowest-over}
 use Rattle.repair.proofs.Laws.Flip.Slots.{elements-with, live-replaced}
 use Rattle.repair.proofs.Laws.Flip.Triangles.{Alike}
@@ -91,11 +92,11 @@ pairs-back (more {p = q} {x = y} t r) {x} m = elim (List·Memᴰ·cases-cons m) 
 ]
 
 -- the order of the elements, and of the vertices in them, does not matter
-pub rearranged : (n : ℕ) (ps xs R : List (List ℕ)) → Pairs ps xs → Proper n (ps ++ R) → Proper n (R ++ xs) × SameCount n (ps ++ R) n (R ++ xs)
+pub rearranged : (n : ℕ) (ps xs R : List (List ℕ)) → Pairs ps xs → Proper n (ps ++ R) → Proper n (R ++ xs) × SameCount n (ps ++ R) n (R ++ xs) × SameComplex (ps ++ R) (R ++ xs)
 rearranged n ps xs R h P =
     let c : SameComplex (ps ++ R) (R ++ xs) = (there, back) in
     let Q : Proper n (R ++ xs) = same-proper n (ps ++ R) (R ++ xs) P elements (omega (arith, length-append ps R, length-append R xs, pairs-length h)) c in
-    (Q, same-count n (ps ++ R) (R ++ xs) P Q c)
+    (Q, same-count n (ps ++ R) (R ++ xs) P Q c, c)
   where
     there : (e : List ℕ) → List·Memᴰ e (ps ++ R) → within e (R ++ xs) ≡ true
     there e m = elim (List·Memᴰ·append-cases ps m) [
@@ -132,26 +133,40 @@ module _ (μ : Measure) (exact : (t : Tet) → Exact (μ .score t)) (old new : L
   pub accepted-floor : (F : ℕ) → F ≤ unitsOf one64 → ((t : Tet) → List·Memᴰ t old → F ≤ unitsOf (μ .score t)) → (t : Tet) → List·Memᴰ t new → F ≤ unitsOf (μ .score t)
   accepted-floor F one k t m = le-trans (le-trans (lowest-over (μ .score) exact F one old k) accepted-lowest) (lowest-under (μ .score) exact new m)
 
+-- ---- flips, counted
+
+-- one flip of the elements es, but for the order of the elements and of the vertices in them
+pub data OneFlip (es fs : List (List ℕ)) : Type 0 where
+  two-to-three : (a b u v w : ℕ) → Flippable23 a b u v w es → SameComplex (flip23 a b u v w es) fs → OneFlip es fs
+  three-to-two : (a b u v w : ℕ) → Flippable32 a b u v w es → SameComplex (flip32 a b u v w es) fs → OneFlip es fs
+
+-- n flips, one after the other
+pub data Chain (es : List (List ℕ)) : ℕ → List (List ℕ) → Type 0 where
+  start : {n : ℕ} {fs : List (List ℕ)} → n ≡ 0 → fs ≡ es → Chain es n fs
+  then : {k n : ℕ} {fs gs : List (List ℕ)} → Chain es k fs → OneFlip fs gs → n ≡ k + 1 → Chain es n gs
+
 -- ---- the state
 
 -- the elements of the slots, as sets of vertices
 abbrev pub elementsOf : List (Option Tet) → List (List ℕ)
 elementsOf ss = map verticesOf (live ss)
 
--- what holds of the slots all along: proper elements, the alternating count of the start, at most two elements a triangle, every
--- determinant above 0, every score at least F units
-pub record Held (μ : Measure) (n F : ℕ) (es₀ : List (List ℕ)) (ss : List (Option Tet)) : Type 0 where
-  pub proper : Proper n (elementsOf ss)
-  pub count : SameCount n es₀ n (elementsOf ss)
-  pub thin : AtMostTwo (elementsOf ss)
-  pub upright : (t : Tet) → List·Memᴰ t (live ss) → μ .above t ≡ true
-  pub floor : (t : Tet) → List·Memᴰ t (live ss) → F ≤ unitsOf (μ .score t)
+-- what holds all along: proper elements, the alternating count of the start, at most two elements a triangle, every determinant above 0,
+-- every score at least F units, and as many flips made as counted
+pub record Held (μ : Measure) (n F : ℕ) (es₀ : List (List ℕ)) (s : State) : Type 0 where
+  pub proper : Proper n (elementsOf (s .slots))
+  pub count : SameCount n es₀ n (elementsOf (s .slots))
+  pub thin : AtMostTwo (elementsOf (s .slots))
+  pub upright : (t : Tet) → List·Memᴰ t (live (s .slots)) → μ .above t ≡ true
+  pub floor : (t : Tet) → List·Memᴰ t (live (s .slots)) → F ≤ unitsOf (μ .score t)
+  pub made : Chain es₀ (s .flips) (elementsOf (s .slots))
 
--- what is asked of a new list fs of elements: proper, the alternating count of es, at most two elements a triangle
+-- what is asked of a new list fs of elements: proper, the alternating count of es, at most two elements a triangle, and one flip from es
 pub record AsGood (n : ℕ) (es fs : List (List ℕ)) : Type 0 where
   pub proper : Proper n fs
   pub count : SameCount n es n fs
   pub thin : AtMostTwo fs
+  pub flip : OneFlip es fs
 
 map-join : (ts us : List Tet) → map verticesOf (ts ++ us) ≡ map verticesOf ts ++ map verticesOf us
 map-join [] us = refl
@@ -165,9 +180,9 @@ elements-replaced σ ss new =
     ∙ ap (λ l. l ++ map verticesOf new) (sym (keep-map verticesOf (λ e. not (sub σ e)) (live ss)))
 
 module _ (μ : Measure) (exact : (t : Tet) → Exact (μ .score t)) (n F : ℕ) (one : F ≤ unitsOf one64) (es₀ : List (List ℕ)) where
-  pub replace-held : (s : State) (σ : List ℕ) (cs : List Tet) → Held μ n F es₀ (s .slots)
+  pub replace-held : (s : State) (σ : List ℕ) (cs : List Tet) → Held μ n F es₀ s
       → AsGood n (elementsOf (s .slots)) (keep (λ e. not (sub σ e)) (elementsOf (s .slots)) ++ map verticesOf (map (oriented μ) cs))
-      → Held μ n F es₀ (replace μ s (numbersWith σ (s .slots)) cs .slots)
+      → Held μ n F es₀ (replace μ s (numbersWith σ (s .slots)) cs)
   unfolding replace
   replace-held s σ cs k f = go (accepted μ (elementsAt ss is) new) refl
     where
@@ -191,12 +206,13 @@ module _ (μ : Measure) (exact : (t : Tet) → Exact (μ .score t)) (n F : ℕ) 
             | inr q ↦ made t q
           ]
 
-      go : (b : Bool) → accepted μ (elementsAt ss is) new ≡ b → Held μ n F es₀ (cond b (record { slots = emptied is ss ++ map some new; flips = s .flips + 1 }) s .slots)
+      go : (b : Bool) → accepted μ (elementsAt ss is) new ≡ b → Held μ n F es₀ (cond b (record { slots = emptied is ss ++ map some new; flips = s .flips + 1 }) s)
       go false h = k
       go true h = record {
         proper = subst (Proper n) (sym (elements-replaced σ ss new)) (f .proper);
         count = subst (λ l. SameCount n es₀ n l) (sym (elements-replaced σ ss new)) (let i = k .count in let j = f .count in omega arith);
         thin = subst AtMostTwo (sym (elements-replaced σ ss new)) (f .thin);
         upright = cases (k .upright) (accepted-upright μ exact (elementsAt ss is) new h);
+        made = subst (λ l. Chain es₀ (s .flips + 1) l) (sym (elements-replaced σ ss new)) (then (k .made) (f .flip) refl);
         floor = cases (k .floor) (accepted-floor μ exact (elementsAt ss is) new h F one (λ t m. k .floor t (old-live t m)));
       }

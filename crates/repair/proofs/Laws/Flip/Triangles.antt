@@ -1,18 +1,18 @@
 -- At most two elements have a triangle: both flips keep that. Of the triangles of the new elements those with the new edge, or the new
 -- face, were in no element before, and each of the others was in an element that goes. Assumes nothing.
-use mathlib.Core.Path.{_≡_, refl, sym, ap, ap₂, subst, _∙_}
-use mathlib.Core.Logic.{_≢_, inl, inr}
+use mathlib.Core.Path.{_≡_, refl, sym, ap, ap₂, subst}
+use mathlib.Core.Logic.{inl, inr}
 use mathlib.Core.Bool.{Bool, true, false, not, _&&_, _||_}
-use mathlib.Core.List.{List, [], _∷_, _++_, List·Memᴰ}
+use mathlib.Core.List.{List, [], _∷_, _++_}
 use Prim.Native.Nat.{ℕ, _+_, _≤_}
 use native.Mathlib.Omega.{arith}
-use borrow.Author.Tests.{eqb-true, eq-eqb, ne-eqb}
+use borrow.Author.Tests.{eq-eqb, ne-eqb}
 use lib.Dec.{eqb}
 use lib.ListN.{length}
 use Rattle.mesh.specs.Complex.{mem, sub, within, keep, star, Nodup, Sub}
 use Rattle.mesh.specs.Moves.{Flippable23, Flippable32}
 use Rattle.mesh.specs.Tests.{every}
-use Rattle.mesh.proofs.Laws.Complex.Sets.{split, clash, nope, or-cases, and-fst, and-snd, mem-here, mem-there, mem-cases, mem-nil, out-head, out-tail, apart, Sub-cons, sub-elim, sub-intro, within-elim, within-intro, within-mono, short, full}
+use Rattle.mesh.proofs.Laws.Complex.Sets.{split, clash, nope, and-fst, and-snd, mem-cases, mem-nil, out-head, out-tail, apart, Sub-cons, sub-elim, sub-intro, within-elim, within-mono, short}
 use Rattle.mesh.proofs.Laws.Complex.Lists.{keep-pos}
 use Rattle.mesh.proofs.Laws.Complex.Sums.{bit}
 use Rattle.mesh.proofs.Laws.Link.Closed.{AtMostTwo}

@@ -1,15 +1,15 @@
 -- One group of `smooth`: the best candidate keeps every determinant about the group above 0 and every score at least the floor, and the
 -- elements away from the group keep their points. Assumes nothing.
 use mathlib.Core.Path.{_≡_, refl, sym, ap, subst, _∙_}
-use mathlib.Core.Logic.{_⊎_, inl, inr, ⊎-elim}
+use mathlib.Core.Logic.{inl, inr}
 use mathlib.Core.Bool.{Bool, true, false, cond, _&&_}
-use mathlib.Core.List.{List, [], _∷_, map, _++_, List·Memᴰ}
+use mathlib.Core.List.{List, [], _∷_, List·Memᴰ}
 use mathlib.Core.Option.{Option, none, some}
 use Prim.Native.Nat.{ℕ, _≤_}
 use native.Mathlib.Nat.{le-trans}
 use native.Mathlib.Omega.{arith}
 use lib.Ieee.{Float, lt, eq}
-use lib.ListN.{length, getD}
+use lib.ListN.{length}
 use Rattle.geometry.specs.declared.point.Point.{Point}
 use Rattle.geometry.specs.declared.bounds.Options.{Options}
 use Rattle.geometry.specs.declared.field.Field.{Field}
@@ -20,10 +20,9 @@ use Rattle.geometry.specs.Bounds.{periodicIn}
 use Rattle.geometry.proofs.Laws.Score.Near.{Near}
 use Rattle.mesh.specs.declared.element.Tet.{Tet}
 use Rattle.mesh.specs.Words.{pointAt}
-use Rattle.mesh.specs.Complex.{keep}
 use Rattle.mesh.specs.Tests.{every}
 use Rattle.mesh.specs.Intake.{sizedPoint, inBox}
-use Rattle.mesh.proofs.Laws.Complex.Sets.{split, and-fst, and-snd}
+use Rattle.mesh.proofs.Laws.Complex.Sets.{split, and-fst}
 use Rattle.mesh.proofs.Laws.Link.Members.{kept-elim, kept-intro, every-elim}
 use Rattle.repair.specs.declared.project.Projected.{Projected}
 use Rattle.repair.specs.declared.project.Projected.the-variants.{Found, Nothing}

@@ -1,26 +1,26 @@
 -- `smooth` as a whole: elements, masks, surface and the number of vertices are as before, every determinant is above 0, and no score is
 -- below the lowest one before. Assumes nothing.
-use mathlib.Core.Path.{_≡_, refl, sym, ap, subst, _∙_}
+use mathlib.Core.Path.{_≡_, refl, ap, subst, _∙_}
 use mathlib.Core.Bool.{true}
 use mathlib.Core.List.{List, map, List·Memᴰ}
 use mathlib.Core.Option.{Option}
-use Prim.Native.Nat.{ℕ, _≤_}
-use native.Mathlib.Nat.{le-trans}
+use Prim.Native.Nat.{ℕ, _+_, _*_, _^_, _≤_}
 use lib.Ieee.{lt}
 use lib.ListN.{length}
-use Rattle.geometry.specs.declared.point.Point.{Point}
 use Rattle.geometry.specs.declared.bounds.Options.{Options}
 use Rattle.geometry.specs.declared.field.Field.{Field}
-use Rattle.geometry.specs.Float.{zero64, one64}
+use Rattle.geometry.specs.Float.{zero64, smaller}
+use Rattle.geometry.specs.Literals.{tenth}
 use Rattle.geometry.specs.Units.{unitsOf}
 use Rattle.mesh.specs.declared.element.Tet.{Tet}
 use Rattle.mesh.specs.Complex.{alternating}
 use Rattle.mesh.specs.Element.{verticesOf}
 use Rattle.mesh.specs.Group.{groups}
 use Rattle.mesh.specs.Intake.{sizedPoint}
-use Rattle.repair.specs.Mesh.{Mesh, Result, made, measure, determinantOf, scoreOf, lowestOf}
+use Rattle.repair.specs.Mesh.{Mesh, made, measure, determinantOf, scoreOf, lowestOf}
+use Rattle.repair.specs.Wholeness.{Exact}
 use Rattle.repair.specs.Smooth.{State, smoothGroups, smooth}
-use Rattle.repair.proofs.Laws.Smooth.Scores.{AllNear, score-exact, lowest-one, lowest-under, lowest-over}
+use Rattle.repair.proofs.Laws.Smooth.Scores.{AllNear, score-exact, lowest-exact, lowest-one, lowest-under, lowest-over, no-loss}
 use Rattle.repair.proofs.Laws.Smooth.Group.{Kept, Long, groups-keep, groups-long}
 
 -- the mesh m′ that `smooth` makes of m
@@ -82,3 +82,12 @@ pub smooth-lowest : (m m′ : Mesh) → AllNear (m .points) → Smoothed m m′
 smooth-lowest m m′ near s =
     lowest-over (scoreOf (m′ .points)) (score-exact (m′ .points) (s .near)) (unitsOf (lowestOf (measure (m .points)) (m .elements)))
     (lowest-one (scoreOf (m .points)) (score-exact (m .points) near) (m .elements)) (m′ .elements) (s .scores)
+
+-- in the terms of demand 3: "every score is at least the smaller of 0.1 and the lowest score at the start", nothing taken off
+pub smooth-scores : (m m′ : Mesh) → AllNear (m .points) → Smoothed m m′ → (t : Tet) → List·Memᴰ t (m′ .elements)
+    → Exact (scoreOf (m′ .points) t)
+    × (10 ^ 12 * unitsOf (smaller tenth (lowestOf (measure (m .points)) (m .elements))) ≤ 10 ^ 12 * unitsOf (scoreOf (m′ .points) t) + 2 * 2 ^ 1074 * 0)
+smooth-scores m m′ near s t i = (
+  score-exact (m′ .points) (s .near) t,
+  no-loss (lowestOf (measure (m .points)) (m .elements)) (scoreOf (m′ .points) t) (lowest-exact (scoreOf (m .points)) (score-exact (m .points) near) (m .elements)) (s .scores t i),
+)

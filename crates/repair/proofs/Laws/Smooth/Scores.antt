@@ -1,23 +1,23 @@
 -- Scores in units of 2 ^ -1074: a score of points within 2 ^ 20 is exact, and the lowest of a list is at most each of them and at least
 -- whatever all of them are at least. Assumes nothing.
-use mathlib.Core.Path.{_≡_, refl, sym, ap, subst, _∙_}
+use mathlib.Core.Path.{_≡_, refl, sym, subst}
 use mathlib.Core.Logic.{⊎-elim}
 use mathlib.Core.Bool.{Bool, true, false, cond}
 use mathlib.Core.List.{List, [], _∷_, map, List·Memᴰ, List·Memᴰ·head, List·Memᴰ·tail, List·Memᴰ·not-nil, List·Memᴰ·cases-cons}
-use Prim.Native.Nat.{ℕ, _≤_}
+use Prim.Native.Nat.{ℕ, _+_, _*_, _^_, _≤_}
 use native.Mathlib.Omega.{arith}
-use native.Mathlib.Nat.{le-trans}
+use native.Mathlib.Nat.{le-trans, mul-le-mul-left, le-add-right}
 use lib.Dec.{T, ltb}
 use lib.Ieee.{Float, binary64, lt, eq, fits}
 use lib.Ieee.Fits.{cond-fits, div-fits}
 use borrow.Author.Tests.{ltb-true, ltb-false}
 use Rattle.geometry.specs.declared.point.Point.{Point}
 use Rattle.geometry.specs.Float.{_+₆₄_, _*₆₄_, _/₆₄_, zero64, one64, absolute, smaller}
-use Rattle.geometry.specs.Literals.{e-10}
+use Rattle.geometry.specs.Literals.{tenth, e-10}
 use Rattle.geometry.specs.Root.{sqrt}
 use Rattle.geometry.specs.Point.{determinant}
 use Rattle.geometry.specs.Score.{R, squaredEdges, score, lowestFrom, lowest}
-use Rattle.geometry.specs.Units.{unitsOf, NotNegative}
+use Rattle.geometry.specs.Units.{unitsOf}
 use Rattle.geometry.proofs.Laws.Float.Units.{lt-units}
 use Rattle.geometry.proofs.Laws.Float.Tolerance.{above}
 use Rattle.geometry.proofs.Laws.Score.Near.{Near}
@@ -143,3 +143,14 @@ module _ (score : Tet → Float) (exact : (t : Tet) → Exact (score t)) where
   -- at least that of more elements
   pub lowest-fewer : (some all : List Tet) → ((t : Tet) → List·Memᴰ t some → List·Memᴰ t all) → unitsOf (lowest (map score all)) ≤ unitsOf (lowest (map score some))
   lowest-fewer some all h = lowest-over (unitsOf (lowest (map score all))) (lowest-one all) some (λ t m. lowest-under all (h t m))
+
+-- ---- in the terms of demand 3
+
+pub tenth-exact : Exact tenth
+unfolding fits
+tenth-exact = (refl, tt)
+
+-- a score that is at least the lowest one before is at least the smaller of 0.1 and that one, nothing taken off
+pub no-loss : (before score : Float) → Exact before → unitsOf before ≤ unitsOf score → 10 ^ 12 * unitsOf (smaller tenth before) ≤ 10 ^ 12 * unitsOf score + 2 * 2 ^ 1074 * 0
+no-loss before score e h =
+    le-trans (mul-le-mul-left (10 ^ 12) (le-trans (smaller-under tenth before tenth-exact e .1) h)) (le-add-right (10 ^ 12 * unitsOf score) (2 * 2 ^ 1074 * 0))

@@ -1,20 +1,19 @@
 -- What lies between bounds of size up to 2 ^ 20 is within 2 ^ 20: a point that intake takes, and a point inside the box. Assumes nothing.
-use mathlib.Core.Path.{_≡_, refl, sym, ap, subst, _∙_}
+use mathlib.Core.Path.{_≡_, refl, sym, subst, _∙_}
 use mathlib.Core.Logic.{⊎-elim}
 use mathlib.Core.Bool.{Bool, true, false, _&&_, _||_, true≢false}
-use Prim.Native.Nat.{ℕ, _+_, _*_, _^_, _≤_, _<_, zero-le}
-use native.Mathlib.Nat.{le-trans, le-of-eq, le-of-lt, mul-le-mul-right, le-of-mul-le-mul-right, mul-right-comm, mul-one, zero-mul}
-use native.Mathlib.Omega.{arith}
-use lib.IntN.{ℤ, pos, negsuc}
-use lib.Dec.{T, eqb, ltb}
-use lib.Ieee.{Float, nan, inf, fin, up, down, below, level, lt, eq, le}
+use Prim.Native.Nat.{ℕ, _*_, _^_, _≤_, _<_, zero-le}
+use native.Mathlib.Nat.{le-trans, le-of-eq, le-of-lt, mul-le-mul-right, le-of-mul-le-mul-right, mul-right-comm, mul-one}
+use lib.IntN.{ℤ, pos}
+use lib.Dec.{eqb, ltb}
+use lib.Ieee.{Float, nan, inf, fin, up, down, lt, eq, le}
 use lib.Ieee.Fits.{down-pos}
 use borrow.Author.Tests.{ltb-true, eqb-true}
 use Rattle.geometry.specs.declared.point.Point.{Point}
 use Rattle.geometry.specs.declared.bounds.Bounds.{Bounds}
 use Rattle.geometry.specs.Units.{within}
 use Rattle.geometry.proofs.Laws.Score.Near.{Near}
-use Rattle.mesh.specs.Intake.{million, sized, sizedPoint, boundsIn, inBox}
+use Rattle.mesh.specs.Intake.{million, sized, sizedPoint, inBox}
 use Rattle.mesh.proofs.Laws.Complex.Sets.{or-cases, and-fst, and-snd}
 
 -- ---- one direction
