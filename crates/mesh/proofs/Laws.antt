@@ -19,3 +19,4 @@ pub mod Star
 pub mod Manifold
 pub mod Euler
 pub mod Group
+pub mod List

@@ -17,3 +17,4 @@ pub mod Group
 pub mod Intake
 pub mod Star
 pub mod Euler
+pub mod List

@@ -42,7 +42,7 @@ fn count_fits(n: usize, m: usize) -> bool
 }
 
 // The ends of the edge k of an element, from 0: a b, a c, a d, b c, b d, c d. From 5 on the last.
-pub(crate) fn tet_ends(t: Tet, k: usize) -> Pair
+fn tet_ends(t: Tet, k: usize) -> Pair
     ensures { λ r. ⌜ r ≡ endsAt t k ⌝ }
 {
     if k == 0 {
@@ -74,7 +74,7 @@ fn put_triangle(area: &mut [u32], p: usize, f: Triple)
 }
 
 // Writes the rows of the edges of n elements behind them.
-fn list_edges(area: &mut [u32], n: usize)
+pub(crate) fn list_edges(area: &mut [u32], n: usize)
     requires { ⌜ (n ≤ 65536) × (28 * n ≤ length (now area)) ⌝ }
     ensures { λ _. ⌜ now (area .exit) ≡ filled (edgeRowAt (now (area .entry))) 2 (4 * n) (6 * n) (now (area .entry)) ⌝ }
 {
@@ -89,7 +89,7 @@ fn list_edges(area: &mut [u32], n: usize)
 }
 
 // Writes the rows of the triangles of n elements behind them.
-fn list_triangles(area: &mut [u32], n: usize)
+pub(crate) fn list_triangles(area: &mut [u32], n: usize)
     requires { ⌜ (n ≤ 65536) × (28 * n ≤ length (now area)) ⌝ }
     ensures { λ _. ⌜ now (area .exit) ≡ filled (triangleRowAt (now (area .entry))) 3 (4 * n) (4 * n) (now (area .entry)) ⌝ }
 {

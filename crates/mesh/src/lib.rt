@@ -6,6 +6,7 @@ pub mod element;
 pub mod euler;
 pub mod group;
 pub mod intake;
+pub mod list;
 pub mod manifold;
 pub mod rows;
 pub mod star;

@@ -16,8 +16,8 @@ use Rattle.mesh.specs.declared.element.Triple.{Triple}
 use Rattle.mesh.specs.declared.element.Tet.{Tet}
 use Rattle.mesh.specs.Words.{wordAt, zeroWords}
 use Rattle.mesh.specs.Sort.{unique}
-use Rattle.mesh.specs.Rows.{rows, eqRow, fitRows, sortedArea, uniqueRows, uniqueArea}
-use Rattle.mesh.specs.Element.{pair, tets, faceOf, keyOf, cornersOf}
+use Rattle.mesh.specs.Rows.{rows, flat, eqRow, fitRows, sortedArea, uniqueRows, uniqueArea}
+use Rattle.mesh.specs.Element.{pair, tets, faceOf, keyOf, cornersOf, verticesOf}
 use Rattle.mesh.specs.Intake.{tetAt}
 use Rattle.mesh.specs.Group.{numbers}
 use Rattle.mesh.specs.Manifold.{filled, KeptBelow}
@@ -50,6 +50,12 @@ tets-same (suc n) s t h =
 
 pub tets-kept : (n : ℕ) {s₀ s : List ℕ} → KeptBelow (4 * n) s₀ s → tets n s ≡ tets n s₀
 tets-kept n {s₀} {s} k = tets-same n s s₀ (λ j h. word-below k j h)
+
+-- elements read from their words
+pub tets-flat : (ts : List Tet) (x : List ℕ) → tets (length ts) (flat (map verticesOf ts) ++ x) ≡ ts
+unfolding tets flat
+tets-flat [] x = refl
+tets-flat (t ∷ ts) x = ap (λ (l : List Tet). t ∷ l) (tets-flat ts x)
 
 -- ---- rows by number
 
@@ -87,7 +93,7 @@ module _ (s : List ℕ) (row : ℕ → List ℕ) (c : ℕ) (f : Tet → List (Li
   pub spread-numbers : (n : ℕ) → map row (numbers 0 (c * n)) ≡ spread f (tets n s)
   spread-numbers n = let e : 0 ≡ c * 0 = omega arith in ap (λ (u : ℕ). map row (numbers u (c * n))) e ∙ spread-from n 0
 
-edge-rows : (s : List ℕ) (n : ℕ) → map (edgeRowAt s) (numbers 0 (6 * n)) ≡ spread edgeRows (tets n s)
+pub edge-rows : (s : List ℕ) (n : ℕ) → map (edgeRowAt s) (numbers 0 (6 * n)) ≡ spread edgeRows (tets n s)
 unfolding numbers edgeRowAt
 edge-rows s n = spread-numbers s (edgeRowAt s) 6 edgeRows six n
   where
@@ -105,7 +111,7 @@ edge-rows s n = spread-numbers s (edgeRowAt s) 6 edgeRows six n
           at i (6 * i + 1 + 1 + 1 + 1 + 1) 5 (omega arith) (omega arith),
         ) refl
 
-triangle-rows : (s : List ℕ) (n : ℕ) → map (triangleRowAt s) (numbers 0 (4 * n)) ≡ spread triangleRows (tets n s)
+pub triangle-rows : (s : List ℕ) (n : ℕ) → map (triangleRowAt s) (numbers 0 (4 * n)) ≡ spread triangleRows (tets n s)
 unfolding numbers triangleRowAt
 triangle-rows s n = spread-numbers s (triangleRowAt s) 4 triangleRows four n
   where

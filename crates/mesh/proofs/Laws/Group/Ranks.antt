@@ -59,7 +59,7 @@ eq-two x y a b =
 
 -- ---- ranks
 
-last-le : (x y : ℕ) → cond (ltb x y) true (cond (ltb y x) false true) ≡ leb x y
+pub last-le : (x y : ℕ) → cond (ltb x y) true (cond (ltb y x) false true) ≡ leb x y
 last-le x y =
     elim (split (ltb x y)) [
       | inl e ↦ (let h = ltb-true x y e in rw (e, le-leb x y (omega arith)) refl)

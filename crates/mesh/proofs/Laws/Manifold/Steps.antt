@@ -1,6 +1,6 @@
 -- Words of an area that are kept, rows that are written, sorted and cleared behind them, and scans over words and runs. Assumes nothing.
 use mathlib.Core.Path.{_≡_, refl, sym, ap, ap₂, _∙_}
-use mathlib.Core.Bool.{Bool, true, false, _&&_}
+use mathlib.Core.Bool.{Bool, true, false, cond, _&&_}
 use mathlib.Core.List.{List, [], _∷_, _++_, append-nil}
 use Prim.Native.Nat.{ℕ, zero, suc, _+_, _-_, _*_, _/_, _%_, _≤_, _<_, min, max}
 use native.Mathlib.Numerals.{add-one}
@@ -164,7 +164,7 @@ unfolding leading
 leading-few p [] = omega arith
 leading-few p (x ∷ l) = go (p x) (leading-few p l)
   where
-    go : (b : Bool) → leading p l ≤ length l → mathlib.Core.Bool.cond b (suc (leading p l)) 0 ≤ suc (length l)
+    go : (b : Bool) → leading p l ≤ length l → cond b (suc (leading p l)) 0 ≤ suc (length l)
     go true h = omega arith
     go false h = omega arith
 

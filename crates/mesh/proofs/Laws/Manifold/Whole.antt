@@ -1,21 +1,22 @@
 -- The test of a whole surface, call by call: what stands in the area, and that the answer is the definition's. Assumes nothing.
 use mathlib.Core.Path.{_≡_, refl, sym, ap, ap₂, _∙_}
 use mathlib.Core.Bool.{Bool, true, false, not, _&&_, and-false}
-use mathlib.Core.List.{List, _∷_, _++_, map}
+use mathlib.Core.List.{List, [], _∷_, _++_, map}
 use Prim.Native.Nat.{ℕ, zero, suc, _+_, _-_, _*_, _≤_, _<_}
 use native.Mathlib.Omega.{arith}
 use lib.Dec.{ltb, leb}
 use lib.ListN.{length, take, drop}
 use lib.Seq.{getD-drop}
-use borrow.Author.Tests.{le-leb, lt-leb, leb-true}
+use borrow.Author.Tests.{le-leb, lt-leb, leb-true, lt-ltb, ltb-true}
 use Rattle.mesh.specs.declared.element.Triple.{Triple}
 use Rattle.mesh.specs.Words.{wordAt, zeroWords}
 use Rattle.mesh.specs.Sort.{sort}
-use Rattle.mesh.specs.Rows.{rows, leRow, sortedArea}
+use Rattle.mesh.specs.Rows.{rows, leRow, sortedArea, flat}
 use Rattle.mesh.specs.Tests.{every}
+use Rattle.mesh.specs.Element.{cornersOf}
 use Rattle.mesh.specs.Group.{numbers}
 use Rattle.mesh.specs.Manifold.{edgesTwice, surfaceLink, oneCycle, surfaceVertices, nonmanifold}
-use Rattle.mesh.proofs.Laws.Bools.{and-left, and-right}
+use Rattle.mesh.proofs.Laws.Bools.{and-intro, and-left, and-right}
 use Rattle.mesh.specs.Group.{runs, sameFirst}
 use Rattle.mesh.specs.Manifold.{triples, surfaceFits, Tested, nonmanifoldIn, edgeRow, linkRow, filled, two, cycle, linkPair, pairBelow, KeptBelow, LinkArea}
 use Rattle.mesh.proofs.Laws.Manifold.Fill.{fill-kept, filled-rows}
@@ -57,6 +58,49 @@ triples-take (suc n) s t h =
 
 pub triples-kept : (n : ℕ) {s₀ s : List ℕ} → KeptBelow (3 * n) s₀ s → triples n s ≡ triples n s₀
 triples-kept n {s₀} {s} k = triples-take n s s₀ (λ j h. word-below k j h)
+
+-- ---- for callers
+
+-- triples read from their words
+pub triples-flat : (fs : List Triple) (x : List ℕ) → triples (length fs) (flat (map cornersOf fs) ++ x) ≡ fs
+unfolding triples flat
+triples-flat [] x = refl
+triples-flat (f ∷ fs) x = ap (λ (l : List Triple). f ∷ l) (triples-flat fs x)
+
+-- a test of all corners is one of all words
+pub corners-words : (p : ℕ → Bool) (n : ℕ) (s : List ℕ) → 3 * n ≤ length s → every p (take (3 * n) s) ≡ every p (surfaceVertices (triples n s))
+unfolding triples surfaceVertices
+corners-words p zero s h = refl
+corners-words p (suc n) [] h = absurd (few 0 n h (omega arith))
+  where
+    few : (m n : ℕ) → 3 * suc n ≤ m → m < 3 → ⊥
+    few m n h k = omega arith
+corners-words p (suc n) (a ∷ []) h = absurd (few 1 n h (omega arith))
+  where
+    few : (m n : ℕ) → 3 * suc n ≤ m → m < 3 → ⊥
+    few m n h k = omega arith
+corners-words p (suc n) (a ∷ b ∷ []) h = absurd (few 2 n h (omega arith))
+  where
+    few : (m n : ℕ) → 3 * suc n ≤ m → m < 3 → ⊥
+    few m n h k = omega arith
+corners-words p (suc n) (a ∷ b ∷ c ∷ s) h =
+    let e : 3 * suc n ≡ suc (suc (suc (3 * n))) = omega arith in
+    ap (λ (u : ℕ). every p (take u (a ∷ b ∷ c ∷ s))) e
+    ∙ ap (λ (t : Bool). p a && (p b && (p c && t))) (corners-words p n s (omega arith))
+
+-- vertices below m, and m marks: there is room
+pub fits-below : (n m : ℕ) (s : List ℕ) → n ≤ 65536 → 27 * n ≤ length s → m + 15 * n ≤ length s → every (λ x. ltb x m) (surfaceVertices (triples n s)) ≡ true
+    → surfaceFits n s ≡ true
+fits-below n m s h k l b =
+    sym (fits-test n s h k)
+    ∙ every-less (take (3 * n) s) (corners-words (λ x. ltb x m) n s (omega arith) ∙ b)
+  where
+    every-less : (xs : List ℕ) → every (λ x. ltb x m) xs ≡ true → every (λ x. ltb x (length s - 15 * n)) xs ≡ true
+    every-less [] e = refl
+    every-less (x ∷ xs) e =
+        let i = ltb-true x m (and-left (ltb x m) (every (λ x. ltb x m) xs) e) in
+        and-intro (ltb x (length s - 15 * n)) (every (λ x. ltb x (length s - 15 * n)) xs) (lt-ltb x (length s - 15 * n) (omega arith))
+        (every-less xs (and-right (ltb x m) (every (λ x. ltb x m) xs) e))
 
 -- ---- edges
 

@@ -32,17 +32,17 @@ corner-requires-2 c κs = search needs
 corner-requires-3 : tie.Need-corner-requires-3 Inv-loop μ-loop
 corner-requires-3 c κs = search needs
 
-mul-put-corner : tie.Need-mul-put-corner Inv-loop μ-loop
-mul-put-corner c = search needs
+mul-put-four : tie.Need-mul-put-four Inv-loop μ-loop
+mul-put-four c = search needs
 
-add-put-corner : tie.Need-add-put-corner Inv-loop μ-loop
-add-put-corner c = search needs
+add-put-four : tie.Need-add-put-four Inv-loop μ-loop
+add-put-four c = search needs
 
-cast-put-corner : tie.Need-cast-put-corner Inv-loop μ-loop
-cast-put-corner c = search needs
+cast-put-four : tie.Need-cast-put-four Inv-loop μ-loop
+cast-put-four c = search needs
 
-put-corner-requires : tie.Need-put-corner-requires Inv-loop μ-loop
-put-corner-requires c κs = search needs
+put-four-requires : tie.Need-put-four-requires Inv-loop μ-loop
+put-four-requires c κs = search needs
 
 add-j : tie.Need-add-j Inv-loop μ-loop
 add-j c = search needs
@@ -51,7 +51,7 @@ loop-less : tie.Need-loop-less Inv-loop μ-loop
 loop-less c = search needs
 
 loop-again : tie.Need-loop-again Inv-loop μ-loop
-loop-again c = let a = (c .before .before .before .before .before .before .before .before .before .before .before .before .before .args) in (omega arith, c .before .before .put-corner .kept .0 ∙ c .before .before .before .before .before .before .before .before .before .before .before .loop .inv .1, corners-turn (a .n) (c .before .before .before .before .before .before .before .before .before .before .before .loop .j) (a .area .now) (c .before .before .before .before .before .before .before .before .before .before .before .loop .area) (c .before .before .put-corner .last .0) (c .before .before .before .before .before .before .before .before .before .before .before .before .before .pre .1) (c .before .before .before .before .before .before .before .before .before .before .loop-test .taken) (c .before .before .before .before .before .before .before .before .corner .result) (c .before .before .before .before .before .before .corner2 .result) (c .before .before .before .before .corner3 .result) (c .before .before .before .before .before .before .before .before .before .before .before .loop .inv .2) (c .before .before .before .before .before .before .before .before .corner .ensures) (c .before .before .before .before .before .before .corner2 .ensures) (c .before .before .before .before .corner3 .ensures) (c .before .before .put-corner .ensures))
+loop-again c = let a = (c .before .before .before .before .before .before .before .before .before .before .before .before .before .args) in (omega arith, c .before .before .put-four .kept .0 ∙ c .before .before .before .before .before .before .before .before .before .before .before .loop .inv .1, corners-turn (a .n) (c .before .before .before .before .before .before .before .before .before .before .before .loop .j) (a .area .now) (c .before .before .before .before .before .before .before .before .before .before .before .loop .area) (c .before .before .put-four .last .0) (c .before .before .before .before .before .before .before .before .before .before .before .before .before .pre .1) (c .before .before .before .before .before .before .before .before .before .before .loop-test .taken) (c .before .before .before .before .before .before .before .before .corner .result) (c .before .before .before .before .before .before .corner2 .result) (c .before .before .before .before .corner3 .result) (c .before .before .before .before .before .before .before .before .before .before .before .loop .inv .2) (c .before .before .before .before .before .before .before .before .corner .ensures) (c .before .before .before .before .before .before .corner2 .ensures) (c .before .before .before .before .corner3 .ensures) (c .before .before .put-four .ensures))
 
 same-length : tie.Need-same-length Inv-loop μ-loop
 same-length c = c .before .loop .inv .1
@@ -70,10 +70,10 @@ list-corners-spec =
     corner-requires
     corner-requires-2
     corner-requires-3
-    mul-put-corner
-    add-put-corner
-    cast-put-corner
-    put-corner-requires
+    mul-put-four
+    add-put-four
+    cast-put-four
+    put-four-requires
     add-j
     loop-less
     loop-again

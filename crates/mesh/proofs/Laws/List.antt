@@ -1,0 +1,6 @@
+-- Laws of the listings.
+pub mod Stack
+pub mod Bad
+pub mod Rows
+pub mod Whole
+pub mod Meaning
