@@ -225,8 +225,8 @@ def copy_crate(name, to):
 
 def quicken(root):
     text = root.read_text()
-    text = text[: text.index("-- x in units of 2 ^ -2148")] + QUICK
-    text = text.replace("_+_, _*_, _/_, _^_}", "_+_, _-_, _*_, _/_, _^_}").replace("up, down, round}", "up, down, size, round}")
+    text = text[: text.index("-- squareRoot")] + QUICK
+    text = text.replace("up, down, round}", "up, down, size, round}")
     root.write_text(text)
 
 
