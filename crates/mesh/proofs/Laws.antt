@@ -14,9 +14,13 @@ pub mod Halving
 pub mod Boundary
 pub mod Complex
 pub mod Link
+pub mod LinkRows
 pub mod Intake
 pub mod Star
 pub mod Manifold
 pub mod Euler
 pub mod Group
 pub mod List
+pub mod About
+pub mod Short
+pub mod Shared

@@ -17,4 +17,8 @@ pub mod Group
 pub mod Intake
 pub mod Star
 pub mod Euler
+pub mod LinkRows
 pub mod List
+pub mod About
+pub mod Short
+pub mod Shared

@@ -1,6 +1,7 @@
 -- What the passes list at their start (document 01, "Element and surface"): the bad elements, and "only faces and edges of elements that are
 -- bad at the start of the pass". Elements stand in slots; a slot whose first word is 0xFFFFFFFF holds none. Rows are sorted, each is there
 -- once, and its words are vertices in rising order. Definitions only.
+use mathlib.Core.Path.{_≡_}
 use Prim.Native.Nat.{ℕ, _+_, _-_, _*_, min, max}
 use mathlib.Core.Bool.{Bool, true, false, not, cond, _&&_}
 use mathlib.Core.List.{List, [], _∷_, _++_, map}
@@ -80,3 +81,8 @@ listedIn rows ps n s =
 -- rows of w words put behind the first b words
 unfoldable pub stacked : List (List ℕ) → ℕ → ℕ → List ℕ → List ℕ
 stacked rs w b s = take b s ++ (flat rs ++ drop (b + w * length rs) s)
+
+-- s is s₀ with these rows of w words, k of them, put behind the first b words
+pub record Pushed (rs : List (List ℕ)) (w b : ℕ) (s₀ s : List ℕ) (k : ℕ) : Type 0 where
+  pub number : k ≡ length rs
+  pub area : s ≡ stacked rs w b s₀

@@ -42,7 +42,7 @@ fn count_fits(n: usize, m: usize) -> bool
 }
 
 // The ends of the edge k of an element, from 0: a b, a c, a d, b c, b d, c d. From 5 on the last.
-fn tet_ends(t: Tet, k: usize) -> Pair
+pub(crate) fn tet_ends(t: Tet, k: usize) -> Pair
     ensures { λ r. ⌜ r ≡ endsAt t k ⌝ }
 {
     if k == 0 {

@@ -17,14 +17,14 @@ ghost use Rattle.mesh.specs.Manifold.{filled};
 ghost use Rattle.mesh.specs.Group.{groupRow, groupFits, groupedArea, groupRowAt};
 
 // The high word of x.
-fn high_half(x: u64) -> u32
+pub(crate) fn high_half(x: u64) -> u32
     ensures { λ r. ⌜ r ≡ x / 2 ^ 32 ⌝ }
 {
     (x / 0x1_0000_0000) as u32
 }
 
 // The low word of x.
-fn low_half(x: u64) -> u32
+pub(crate) fn low_half(x: u64) -> u32
     ensures { λ r. ⌜ r ≡ x % 2 ^ 32 ⌝ }
 {
     (x % 0x1_0000_0000) as u32

@@ -228,7 +228,7 @@ fn settings_in(o: Options, count: u32, fields: [Field; 8]) -> bool
 }
 
 // Whether p is within lo to hi in each direction.
-fn in_box(b: Bounds, p: Point) -> bool
+pub fn in_box(b: Bounds, p: Point) -> bool
     ensures { λ r. ⌜ r ≡ inBox b p ⌝ }
 {
     if !(b.lo.x <= p.x) {
@@ -306,7 +306,7 @@ fn under_all(t: Tet, n: usize) -> bool
 }
 
 // Whether the four vertices of an element are different.
-fn four_different(t: Tet) -> bool
+pub(crate) fn four_different(t: Tet) -> bool
     ensures { λ r. ⌜ r ≡ nodup (verticesOf t) ⌝ }
 {
     if t.a == t.b {

@@ -43,7 +43,7 @@ fn list_fits(n: usize, m: usize) -> bool
 }
 
 // The point of the vertex v of nv, 0 0 0 past the last.
-fn vertex_point(points: &[f64], nv: usize, v: u32) -> Point
+pub fn vertex_point(points: &[f64], nv: usize, v: u32) -> Point
     ensures { λ r. ⌜ r ≡ pointAt (pointsOf nv (now (points .entry))) v ⌝ }
 {
     let i = v as usize;
@@ -58,7 +58,7 @@ fn vertex_point(points: &[f64], nv: usize, v: u32) -> Point
 }
 
 // Whether an element is bad; no element is in a slot whose first word is 0xFFFFFFFF.
-fn is_bad_tet(points: &[f64], nv: usize, t: Tet) -> bool
+pub(crate) fn is_bad_tet(points: &[f64], nv: usize, t: Tet) -> bool
     ensures { λ r. ⌜ r ≡ badIn (pointsOf nv (now (points .entry))) t ⌝ }
 {
     if t.a == 0xffff_ffff {
@@ -102,7 +102,7 @@ fn unique_from(area: &mut [u32], a: usize, n: usize, w: usize) -> usize
 }
 
 // The n rows from a on sorted, each once, with zeros behind them, and how many they are.
-fn set_from(area: &mut [u32], a: usize, n: usize, w: usize) -> usize
+pub(crate) fn set_from(area: &mut [u32], a: usize, n: usize, w: usize) -> usize
     requires { ⌜ (0 < w) × (a + (n + n) * w ≤ length (now area)) ⌝ }
     ensures { λ r. ⌜ (r ≡ length (setOf (rows w n (drop a (now (area .entry))))))
         × (now (area .exit) ≡ take a (now (area .entry)) ++ (flat (setOf (rows w n (drop a (now (area .entry)))))

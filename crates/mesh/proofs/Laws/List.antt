@@ -1,5 +1,6 @@
 -- Laws of the listings.
 pub mod Stack
+pub mod Push
 pub mod Bad
 pub mod Rows
 pub mod Whole

@@ -6,6 +6,7 @@ pub mod Chains
 pub mod Hanging
 pub mod Joining
 pub mod Distinct
+pub mod Numbers
 pub mod Scan
 pub mod Found
 pub mod Turns

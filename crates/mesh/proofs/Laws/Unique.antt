@@ -73,7 +73,7 @@ module _ {A : Type 0} (eq : A → A → Bool) where
 
 module _ {A : Type 0} (le : A → A → Bool) (trans : (a b c : A) → le a b ≡ true → le b c ≡ true → le a c ≡ true) (total : (a b : A) → le a b ≡ false → le b a ≡ true)
     (eq : A → A → Bool) (eq-refl : (a : A) → eq a a ≡ true) (eq-sound : (a b : A) → eq a b ≡ true → a ≡ b) where
-  before-trans : (a b c : A) → before le a b ≡ true → before le b c ≡ true → before le a c ≡ true
+  pub before-trans : (a b c : A) → before le a b ≡ true → before le b c ≡ true → before le a c ≡ true
   unfolding before
   before-trans a b c h k = ap not (fails (le c a) (λ m. clash (le c b) (trans c a b m (total b a (not-true (le b a) h))) (not-true (le c b) k)))
 

@@ -51,7 +51,7 @@ set-in : (z : List ℕ) (l : List (List ℕ)) → List·Memᴰ z l → List·Mem
 set-in z l m = elem-mem z (unique eqRow (sort leRow l)) (set-elem z l ∙ mem-elem z l m)
 
 module _ (f : Tet → List (List ℕ)) where
-  spread-from : (ts : List Tet) (σ : List ℕ) → List·Memᴰ σ (spread f ts) → (t : Tet) × List·Memᴰ t ts × List·Memᴰ σ (f t)
+  pub spread-from : (ts : List Tet) (σ : List ℕ) → List·Memᴰ σ (spread f ts) → (t : Tet) × List·Memᴰ t ts × List·Memᴰ σ (f t)
   unfolding spread
   spread-from [] σ m = absurd (List·Memᴰ·not-nil m)
   spread-from (t ∷ ts) σ m =
@@ -60,7 +60,7 @@ module _ (f : Tet → List (List ℕ)) where
         | inr q ↦ let r = spread-from ts σ q in (r .0, List·Memᴰ·tail (r .1), r .2)
       ]
 
-  spread-in : (ts : List Tet) (t : Tet) (σ : List ℕ) → List·Memᴰ t ts → List·Memᴰ σ (f t) → List·Memᴰ σ (spread f ts)
+  pub spread-in : (ts : List Tet) (t : Tet) (σ : List ℕ) → List·Memᴰ t ts → List·Memᴰ σ (f t) → List·Memᴰ σ (spread f ts)
   unfolding spread
   spread-in [] t σ m k = absurd (List·Memᴰ·not-nil m)
   spread-in (u ∷ ts) t σ m k =

@@ -15,7 +15,7 @@ use Rattle.mesh.specs.Group.{rankWords}
 
 -- ---- one number as two words
 
-le-two : (x y : ℕ) (a b : List ℕ) → leRow (x / 2 ^ 32 ∷ x % 2 ^ 32 ∷ a) (y / 2 ^ 32 ∷ y % 2 ^ 32 ∷ b) ≡ cond (ltb x y) true (cond (ltb y x) false (leRow a b))
+pub le-two : (x y : ℕ) (a b : List ℕ) → leRow (x / 2 ^ 32 ∷ x % 2 ^ 32 ∷ a) (y / 2 ^ 32 ∷ y % 2 ^ 32 ∷ b) ≡ cond (ltb x y) true (cond (ltb y x) false (leRow a b))
 unfolding leRow
 le-two x y a b =
     elim (split (ltb x y)) [
@@ -43,7 +43,7 @@ le-two x y a b =
     level : y ≤ x → x ≤ y → leRow (x / 2 ^ 32 ∷ x % 2 ^ 32 ∷ a) (y / 2 ^ 32 ∷ y % 2 ^ 32 ∷ b) ≡ leRow a b
     level h k = simp (le-ltb (x / 2 ^ 32) (y / 2 ^ 32) (omega arith), le-ltb (y / 2 ^ 32) (x / 2 ^ 32) (omega arith), le-ltb (x % 2 ^ 32) (y % 2 ^ 32) (omega arith), le-ltb (y % 2 ^ 32) (x % 2 ^ 32) (omega arith))
 
-eq-two : (x y : ℕ) (a b : List ℕ) → eqRow (x / 2 ^ 32 ∷ x % 2 ^ 32 ∷ a) (y / 2 ^ 32 ∷ y % 2 ^ 32 ∷ b) ≡ (eqb x y && eqRow a b)
+pub eq-two : (x y : ℕ) (a b : List ℕ) → eqRow (x / 2 ^ 32 ∷ x % 2 ^ 32 ∷ a) (y / 2 ^ 32 ∷ y % 2 ^ 32 ∷ b) ≡ (eqb x y && eqRow a b)
 unfolding eqRow
 eq-two x y a b =
     elim (split (eqb x y)) [

@@ -22,7 +22,7 @@ use Rattle.mesh.proofs.Laws.Link.Features.{mem-member, member-mem, labe
 
 -- ---- bits
 
-bits-from : (n k m j : ℕ) → mem j (bitsFrom n k m) ≡ true → k ≤ j
+pub bits-from : (n k m j : ℕ) → mem j (bitsFrom n k m) ≡ true → k ≤ j
 unfolding bitsFrom
 bits-from zero k m j i = absurd (mem-nil j i)
 bits-from (suc n) k m j i =

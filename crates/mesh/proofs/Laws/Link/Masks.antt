@@ -54,7 +54,7 @@ on-face x (f ∷ fs) = joins (cornersOf f) (cornersIn fs) ∙ (ap (λ p. mem x (
     joins (y ∷ xs) ys = ap (λ p. eqb x y || p) (joins xs ys) ∙ sym (or-assoc (eqb x y) (mem x xs) (mem x ys))
 
 -- the faces that the collapse leaves
-outlives-elim : (a b : ℕ) (fs : List Triple) (x : ℕ) → outlives a b fs x ≡ true → (f : Triple) × List·Memᴰ f fs × (mem a (cornersOf f) ≡ true → mem b (cornersOf f) ≡ true → ⊥) × (mem x (cornersOf f) ≡ true)
+pub outlives-elim : (a b : ℕ) (fs : List Triple) (x : ℕ) → outlives a b fs x ≡ true → (f : Triple) × List·Memᴰ f fs × (mem a (cornersOf f) ≡ true → mem b (cornersOf f) ≡ true → ⊥) × (mem x (cornersOf f) ≡ true)
 outlives-elim a b fs x w =
     let r = edge-elim (keep (λ f. not (mem a (cornersOf f) && mem b (cornersOf f))) fs) (x ∷ []) w in
     let k = kept-elim (λ f. not (mem a (cornersOf f) && mem b (cornersOf f))) fs (r .1) in

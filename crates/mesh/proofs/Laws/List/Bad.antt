@@ -52,7 +52,7 @@ keep-snoc : (p : Tet → Bool) (l : List Tet) (x : Tet) → keep p (l ++ (x ∷ 
 keep-snoc p [] x = elim (split (p x)) [ inl e ↦ rw e refl | inr e ↦ rw e refl ]
 keep-snoc p (y ∷ l) x = elim (split (p y)) [ inl e ↦ rw e (ap (λ (u : List Tet). y ∷ u) (keep-snoc p l x)) | inr e ↦ rw e (keep-snoc p l x) ]
 
-keep-few : (p : Tet → Bool) (l : List Tet) → length (keep p l) ≤ length l
+pub keep-few : (p : Tet → Bool) (l : List Tet) → length (keep p l) ≤ length l
 keep-few p [] = omega arith
 keep-few p (y ∷ l) = let h = keep-few p l in elim (split (p y)) [ inl e ↦ rw e (omega arith) | inr e ↦ rw e (omega arith) ]
 

@@ -26,11 +26,11 @@ use Rattle.mesh.specs.List.{badIn, setOf, badEdges, badFaces, allEdges, 
 abbrev pub pairRow : Pair → List ℕ
 pairRow e = e .a ∷ e .b ∷ []
 
-le-pair : (e f : Pair) → leRow (pairRow e) (pairRow f) ≡ lePair e f
+pub le-pair : (e f : Pair) → leRow (pairRow e) (pairRow f) ≡ lePair e f
 unfolding leRow
 le-pair e f = ap (λ (b : Bool). cond (ltb (e .a) (f .a)) true (cond (ltb (f .a) (e .a)) false b)) (last-le (e .b) (f .b))
 
-eq-pair : (e f : Pair) → eqRow (pairRow e) (pairRow f) ≡ samePair e f
+pub eq-pair : (e f : Pair) → eqRow (pairRow e) (pairRow f) ≡ samePair e f
 unfolding eqRow
 eq-pair e f = ap (λ (b : Bool). eqb (e .a) (f .a) && b) (and-true (eqb (e .b) (f .b)))
 

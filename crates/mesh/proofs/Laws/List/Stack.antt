@@ -16,11 +16,11 @@ unfolding stacked flat
 stack-start w b s = let e : b ≡ b + w * 0 = omega arith in sym (take-append-drop b s) ∙ ap (λ (u : ℕ). take b s ++ drop u s) e
 
 module _ {w : ℕ} {rs : List (List ℕ)} (k : ℕ) (shape : Shape w k rs) (b : ℕ) (s₀ : List ℕ) (inside : b ≤ length s₀) where
-  many : {n : ℕ} {l : List (List ℕ)} → Shape w n l → length l ≡ n
+  pub many : {n : ℕ} {l : List (List ℕ)} → Shape w n l → length l ≡ n
   many none = refl
   many (more e s) = ap suc (many s)
 
-  front : length (take b s₀ ++ flat rs) ≡ b + w * length rs
+  pub front : length (take b s₀ ++ flat rs) ≡ b + w * length rs
   front =
       length-append (take b s₀) (flat rs) ∙ ap₂ (λ (u v : ℕ). u + v) (length-take-le b s₀ inside)
       (length-flat shape ∙ (let e : k * w ≡ w * k = omega arith in e) ∙ ap (λ (u : ℕ). w * u) (sym (many shape)))

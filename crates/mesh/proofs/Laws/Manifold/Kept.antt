@@ -36,7 +36,7 @@ module _ {A : Type 0} (le : A → A → Bool) (p : A → Bool) where
 -- ---- sorted and kept
 
 module _ {A : Type 0} (le : A → A → Bool) (trans : (a b c : A) → le a b ≡ true → le b c ≡ true → le a c ≡ true) (p : A → Bool) where
-  headed-kept : (x y : A) (l : List A) → le x y ≡ true → ordered le (y ∷ l) ≡ true → headed le x (keep p (y ∷ l)) ≡ true
+  pub headed-kept : (x y : A) (l : List A) → le x y ≡ true → ordered le (y ∷ l) ≡ true → headed le x (keep p (y ∷ l)) ≡ true
   unfolding headed ordered
   headed-kept x y [] h k = elim (split (p y)) [ inl e ↦ rw e h | inr e ↦ rw e refl ]
   headed-kept x y (z ∷ l) h k =

@@ -20,7 +20,7 @@ use Rattle.mesh.proofs.Laws.Star.Chains.{mem-left, mem-right, mem-eithe
 use Rattle.mesh.proofs.Laws.Star.Distinct.{distinct-is, distinct-same}
 use Rattle.mesh.proofs.Laws.Star.Scan.{star-out, star-in, star-rising, length-tets, tets-vertices, others-out, others-in}
 
-gather-out : (f : ℕ → List ℕ) (ps : List ℕ) (e : ℕ) → mem e (gather f ps) ≡ true → (p : ℕ) × (mem p ps ≡ true) × (mem e (f p) ≡ true)
+pub gather-out : (f : ℕ → List ℕ) (ps : List ℕ) (e : ℕ) → mem e (gather f ps) ≡ true → (p : ℕ) × (mem p ps ≡ true) × (mem e (f p) ≡ true)
 unfolding gather
 gather-out f [] e m = absurd (mem-nil e m)
 gather-out f (p ∷ ps) e m =
@@ -29,7 +29,7 @@ gather-out f (p ∷ ps) e m =
       | inr a ↦ let r = gather-out f ps e a in (r .0, mem-there (r .0) p ps (r .1), r .2)
     ]
 
-gather-in : (f : ℕ → List ℕ) (ps : List ℕ) (p e : ℕ) → mem p ps ≡ true → mem e (f p) ≡ true → mem e (gather f ps) ≡ true
+pub gather-in : (f : ℕ → List ℕ) (ps : List ℕ) (p e : ℕ) → mem p ps ≡ true → mem e (f p) ≡ true → mem e (gather f ps) ≡ true
 unfolding gather
 gather-in f [] p e m a = absurd (mem-nil p m)
 gather-in f (q ∷ ps) p e m a =
@@ -132,7 +132,7 @@ module _ (x : Index) (s : List ℕ) where
     has-at v e h = ap (mem v) (slot-vertices n e h)
 
     -- a slot that a walk meets is an element that has the vertex
-    met-has : (v e : ℕ) → mem e (slotsMet x s v) ≡ true → (e < n) × (has v (getD elements e goneTet) ≡ true)
+    pub met-has : (v e : ℕ) → mem e (slotsMet x s v) ≡ true → (e < n) × (has v (getD elements e goneTet) ≡ true)
     met-has v e m =
         let r = met-out v e m in
         let p = r .0 in
@@ -142,7 +142,7 @@ module _ (x : Index) (s : List ℕ) where
         (h, has-at v e h ∙ subst (λ (y : ℕ). mem v (cornersAt x s y) ≡ true) (sym q) (subst (λ (y : ℕ). mem y (cornersAt x s (p / 4)) ≡ true) (r .2) (corner-in p)))
 
     -- and the other way round, for a vertex that is indexed
-    has-met : (v e : ℕ) → Indexed x s (4 * n) v → e < n → has v (getD elements e goneTet) ≡ true → mem e (slotsMet x s v) ≡ true
+    pub has-met : (v e : ℕ) → Indexed x s (4 * n) v → e < n → has v (getD elements e goneTet) ≡ true → mem e (slotsMet x s v) ≡ true
     has-met v e i h m =
         let r = corner-out v e (sym (has-at v e h) ∙ m) in
         let p = r .0 in

@@ -4,21 +4,21 @@ use mathlib.Core.Logic.{_≢_, inl, inr}
 use mathlib.Core.Bool.{Bool, true, false, cond, not, _||_}
 use mathlib.Core.List.{List, [], _∷_}
 use Prim.Native.Nat.{ℕ, zero, suc, _+_, _*_, _<_}
-use native.Mathlib.Nat.{le-of-suc-le-suc, not-suc-le-zero, add-zero}
+use native.Mathlib.Nat.{le-of-suc-le-suc, not-suc-le-zero}
 use native.Mathlib.Omega.{arith}
 use lib.Dec.{leb, eqb}
 use lib.ListN.{length, getD, drop}
 use lib.Seq.{getD-drop}
-use borrow.Author.Tests.{lt-leb, eqb-false, ne-eqb, not-true}
+use borrow.Author.Tests.{eqb-false, ne-eqb, not-true}
 use Rattle.mesh.specs.declared.element.Tet.{Tet}
 use Rattle.mesh.specs.Words.{wordAt}
-use Rattle.mesh.specs.Sort.{before, headed, ordered}
+use Rattle.mesh.specs.Sort.{before, ordered}
 use Rattle.mesh.specs.Complex.{mem, Nodup}
 use Rattle.mesh.specs.Element.{tets, verticesOf}
 use Rattle.mesh.specs.Star.{has, starFrom, starOf, goneWord, goneTet, butFor, othersOf, neighboursOf}
-use Rattle.mesh.proofs.Laws.Bools.{and-intro}
-use Rattle.mesh.proofs.Laws.Complex.Sets.{clash, nope, and-fst, and-snd, mem-here, mem-there, mem-cases, mem-nil, keep-mem}
+use Rattle.mesh.proofs.Laws.Complex.Sets.{clash, nope, and-fst, and-snd, mem-nil, keep-mem}
 use Rattle.mesh.proofs.Laws.Star.Chains.{mem-left, mem-right, mem-either}
+use Rattle.mesh.proofs.Laws.Star.Numbers.{star-passes, pass-out, pass-in, pass-rising}
 use Rattle.mesh.proofs.Laws.Star.Distinct.{distinct-mem, distinct-once, distinct-rising}
 
 -- ---- the numbers of a star
@@ -30,55 +30,15 @@ module _ (v w : ℕ) where
   -- each is the number of an element that has v or w
   pub star-out : (ts : List Tet) (i e : ℕ) (z : Tet) → mem e (starFrom v w i ts) ≡ true
       → (d : ℕ) × (e ≡ i + d) × (d < length ts) × ((has v (getD ts d z) || has w (getD ts d z)) ≡ true)
-  unfolding starFrom
-  star-out [] i e z m = absurd (mem-nil e m)
-  star-out (t ∷ ts) i e z m = go (about t) refl m (star-out ts (i + 1) e z)
-    where
-      later : (d : ℕ) × (e ≡ i + 1 + d) × (d < length ts) × (about (getD ts d z) ≡ true) → (d : ℕ) × (e ≡ i + d) × (d < length (t ∷ ts)) × (about (getD (t ∷ ts) d z) ≡ true)
-      later r = let a = r .1 in let b = r .2 in (suc (r .0), omega arith, omega arith, r .3)
-
-      go : (b : Bool) → about t ≡ b → mem e (cond b (i ∷ starFrom v w (i + 1) ts) (starFrom v w (i + 1) ts)) ≡ true
-          → (mem e (starFrom v w (i + 1) ts) ≡ true → (d : ℕ) × (e ≡ i + 1 + d) × (d < length ts) × (about (getD ts d z) ≡ true))
-          → (d : ℕ) × (e ≡ i + d) × (d < length (t ∷ ts)) × (about (getD (t ∷ ts) d z) ≡ true)
-      go true h m ih = elim (mem-cases e i (starFrom v w (i + 1) ts) m) [ inl q ↦ (0, omega arith, omega arith, h) | inr n ↦ later (ih n) ]
-      go false h m ih = later (ih m)
+  star-out ts i e z m = pass-out about ts i e z (subst (λ (us : List ℕ). mem e us ≡ true) (star-passes v w i ts) m)
 
   -- and each such number is there
   pub star-in : (ts : List Tet) (i d : ℕ) (z : Tet) → d < length ts → (has v (getD ts d z) || has w (getD ts d z)) ≡ true → mem (i + d) (starFrom v w i ts) ≡ true
-  unfolding starFrom
-  star-in [] i d z h a = absurd (not-suc-le-zero h)
-  star-in (t ∷ ts) i zero z h a = rw (a, add-zero) (mem-here i (starFrom v w (i + 1) ts))
-  star-in (t ∷ ts) i (suc d) z h a = go (about t) (star-in ts (i + 1) d z (le-of-suc-le-suc h) a)
-    where
-      n : i + 1 + d ≡ i + suc d
-      n = omega arith
-
-      go : (b : Bool) → mem (i + 1 + d) (starFrom v w (i + 1) ts) ≡ true → mem (i + suc d) (cond b (i ∷ starFrom v w (i + 1) ts) (starFrom v w (i + 1) ts)) ≡ true
-      go true m = mem-there (i + suc d) i (starFrom v w (i + 1) ts) (subst (λ (u : ℕ). mem u (starFrom v w (i + 1) ts) ≡ true) n m)
-      go false m = subst (λ (u : ℕ). mem u (starFrom v w (i + 1) ts) ≡ true) n m
-
-  above : (ts : List Tet) (j i : ℕ) → j < i → headed (before leb) j (starFrom v w i ts) ≡ true
-  unfolding starFrom headed before
-  above [] j i h = refl
-  above (t ∷ ts) j i h = go (about t) (above ts j (i + 1) (omega arith))
-    where
-      go : (b : Bool) → headed (before leb) j (starFrom v w (i + 1) ts) ≡ true → headed (before leb) j (cond b (i ∷ starFrom v w (i + 1) ts) (starFrom v w (i + 1) ts)) ≡ true
-      go true ih = rw (lt-leb i j h)
-      go false ih = ih
+  star-in ts i d z h a = subst (λ (us : List ℕ). mem (i + d) us ≡ true) (sym (star-passes v w i ts)) (pass-in about ts i d z h a)
 
   -- in number order, each once
   pub star-rising : (ts : List Tet) (i : ℕ) → ordered (before leb) (starFrom v w i ts) ≡ true
-  unfolding starFrom ordered
-  star-rising [] i = refl
-  star-rising (t ∷ ts) i = go (about t) (star-rising ts (i + 1))
-    where
-      l : List ℕ
-      l = starFrom v w (i + 1) ts
-
-      go : (b : Bool) → ordered (before leb) (starFrom v w (i + 1) ts) ≡ true → ordered (before leb) (cond b (i ∷ starFrom v w (i + 1) ts) (starFrom v w (i + 1) ts)) ≡ true
-      go true ih =
-          and-intro (headed (before leb) i (starFrom v w (i + 1) ts)) (ordered (before leb) (starFrom v w (i + 1) ts)) (above ts i (i + 1) (omega arith)) ih
-      go false ih = ih
+  star-rising ts i = ap (ordered (before leb)) (star-passes v w i ts) ∙ pass-rising about ts i
 
   -- a slot that is gone is in no star of vertices
   pub gone-not : (ts : List Tet) (e : ℕ) (z : Tet) → v ≢ goneWord → w ≢ goneWord → getD ts e z ≡ goneTet → mem e (starOf v w ts) ≡ false

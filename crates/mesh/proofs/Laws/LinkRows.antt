@@ -1,0 +1,13 @@
+-- The link tests of an edge by sorted rows.
+pub mod Marks
+pub mod Meet
+pub mod Elements
+pub mod Bits
+pub mod Areas
+pub mod Faces
+pub mod Boundary
+pub mod Self
+pub mod Features
+pub mod Walk
+pub mod Alone
+pub mod Whole
