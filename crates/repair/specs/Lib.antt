@@ -1,8 +1,19 @@
--- The definitions of the passes, a file for each subject.
+-- The definitions of the passes, a file for each subject; those from Solve on serve the contracts of private functions.
 pub mod Mesh
 pub mod Project
 pub mod Improve
 pub mod Smooth
 pub mod Flip
 pub mod Step
+pub mod Regions
 pub mod Wholeness
+pub mod Solve
+pub mod Site
+pub mod Layout
+pub mod Pairs
+pub mod Replace
+pub mod PairOk
+pub mod Round
+pub mod Tally
+pub mod Finish
+pub mod Fitting

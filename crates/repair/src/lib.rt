@@ -1,4 +1,24 @@
-// Passes: `improve`, `smooth` and `flip`. The answers' types; specs/ has the definitions of the
-// passes.
+// Passes: `improve` and `smooth`, and what they are made of. specs/ has the definitions of all
+// three passes; the code of `flip` is not here yet.
 pub mod answer;
+mod begin;
+mod best;
+mod candidate;
+mod finish;
+mod float;
+mod gain;
+mod group_move;
+pub mod improve;
+mod layout;
+mod locked;
+mod matrix;
+mod members;
+mod pair;
+mod pairs;
 pub mod project;
+mod replace;
+mod round;
+mod row;
+pub mod smooth;
+mod tally;
+mod trial;

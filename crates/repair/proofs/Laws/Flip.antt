@@ -8,3 +8,4 @@ pub mod Face
 pub mod Edge
 pub mod Pass
 pub mod End
+pub mod Shared

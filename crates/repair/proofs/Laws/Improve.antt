@@ -14,3 +14,4 @@ pub mod Intake
 pub mod Buffers
 pub mod Calls
 pub mod Closed
+pub mod Short

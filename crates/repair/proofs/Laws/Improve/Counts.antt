@@ -39,7 +39,7 @@ unfolding numbers
 numbers-nodup k zero = tt
 numbers-nodup k (suc n) = (nope (λ h. let l : k + 1 ≤ k = numbers-from (k + 1) n k h in omega arith), numbers-nodup (k + 1) n)
 
-numbers-mem : (k n x : ℕ) → k ≤ x → x < k + n → mem x (numbers k n) ≡ true
+pub numbers-mem : (k n x : ℕ) → k ≤ x → x < k + n → mem x (numbers k n) ≡ true
 unfolding numbers
 numbers-mem k zero x l u = absurd (omega arith)
 numbers-mem k (suc n) x l u =
@@ -48,7 +48,7 @@ numbers-mem k (suc n) x l u =
       | inr h ↦ let ne = eqb-false x k h in mem-there x k (numbers (k + 1) n) (numbers-mem (k + 1) n x (omega arith) (omega arith))
     ]
 
-append-cases : (x : ℕ) (xs ys : List ℕ) → mem x (xs ++ ys) ≡ true → (mem x xs ≡ true) ⊎ (mem x ys ≡ true)
+pub append-cases : (x : ℕ) (xs ys : List ℕ) → mem x (xs ++ ys) ≡ true → (mem x xs ≡ true) ⊎ (mem x ys ≡ true)
 append-cases x [] ys h = inr h
 append-cases x (y ∷ xs) ys h =
     elim (mem-cases x y (xs ++ ys) h) [
@@ -63,13 +63,13 @@ append-nodup (x ∷ xs) ys d e h = (
   append-nodup xs ys (d .1) e (λ y q. h y (mem-there y x xs q)),
 )
 
-some-length : (x : ℕ) (xs : List ℕ) → mem x xs ≡ true → 0 < length xs
+pub some-length : (x : ℕ) (xs : List ℕ) → mem x xs ≡ true → 0 < length xs
 some-length x [] h = absurd (mem-nil x h)
 some-length x (y ∷ xs) h = omega arith
 
 -- ---- the pairs of a direction
 
-firsts : List Pair → List ℕ
+unfoldable pub firsts : List Pair → List ℕ
 firsts es = map (λ e. e .a) es
 
 module _ (o : Options) (m : Mesh) where
@@ -83,7 +83,7 @@ module _ (o : Options) (m : Mesh) where
   firsts-append [] fs = refl
   firsts-append (e ∷ es) fs = ap (λ l. e .a ∷ l) (firsts-append es fs)
 
-  firsts-mem : (vs ws : List ℕ) (x : ℕ) → mem x (firsts (partners o m vs ws)) ≡ true → mem x vs ≡ true
+  pub firsts-mem : (vs ws : List ℕ) (x : ℕ) → mem x (firsts (partners o m vs ws)) ≡ true → mem x vs ≡ true
   unfolding partners firsts
   firsts-mem [] ws x h = absurd (mem-nil x h)
   firsts-mem (v ∷ vs) ws x h =
@@ -96,7 +96,7 @@ module _ (o : Options) (m : Mesh) where
         | inr q ↦ mem-there x v vs (firsts-mem vs ws x q)
       ]
 
-  firsts-nodup : (vs ws : List ℕ) → Nodup vs → Nodup (firsts (partners o m vs ws))
+  pub firsts-nodup : (vs ws : List ℕ) → Nodup vs → Nodup (firsts (partners o m vs ws))
   unfolding partners firsts
   firsts-nodup [] ws d = tt
   firsts-nodup (v ∷ vs) ws d =
@@ -107,7 +107,7 @@ module _ (o : Options) (m : Mesh) where
         | inr e ↦ subst (λ l. Nodup (l ++ firsts (partners o m vs ws))) (sym e) (nope (λ z. clash (firsts-mem vs ws v z) (d .0)), ih)
       ])
 
-  active-nodup : (replaced : List ℕ) (v : ℕ) → Nodup (activeGroup o m replaced v)
+  pub active-nodup : (replaced : List ℕ) (v : ℕ) → Nodup (activeGroup o m replaced v)
   active-nodup replaced v =
       keep-nodup (λ w. not (mem w replaced)) (groupOf o (m .parameters) v) (keep-nodup (λ w. sameRanks (rankOf o (m .parameters) w) (rankOf o (m .parameters) v)) (numbers 0 (length (m .parameters))) (numbers-nodup 0 (length (m .parameters))))
 
@@ -116,7 +116,7 @@ module _ (o : Options) (m : Mesh) where
       not-true (mem x replaced) (and-snd (mem x (groupOf o (m .parameters) v)) (not (mem x replaced)) (sym (keep-mem (λ w. not (mem w replaced)) (groupOf o (m .parameters) v) x) ∙ h))
 
   -- a vertex that is not replaced is in its group
-  active-self : (replaced : List ℕ) (v : ℕ) → v < size m → mem v replaced ≡ false → mem v (activeGroup o m replaced v) ≡ true
+  pub active-self : (replaced : List ℕ) (v : ℕ) → v < size m → mem v replaced ≡ false → mem v (activeGroup o m replaced v) ≡ true
   active-self replaced v l h =
       keep-mem (λ w. not (mem w replaced)) (groupOf o (m .parameters) v) v
       ∙ rw (keep-mem (λ w. sameRanks (rankOf o (m .parameters) w) (rankOf o (m .parameters) v)) (numbers 0 (length (m .parameters))) v, numbers-mem 0 (length (m .parameters)) v (omega arith) (omega arith), ranks-refl (rankOf o (m .parameters) v), h) refl
@@ -147,7 +147,7 @@ module _ (o : Options) (m : Mesh) (μ : Measure) where
   go-grows : (k : ℕ) (s : State) (a b : ℕ) → Tried o m μ s a b → k ≤ length (s .replaced) → k ≤ length (go o m μ s a b .replaced)
   go-grows k s a b t h = omega (arith, length-append (map (λ e. e .a) (pairsFor o m μ s a b)) (s .replaced))
 
-  edges-grow : (es : List Pair) (s : State) → length (s .replaced) ≤ length (tryEdges o m μ s es .replaced)
+  pub edges-grow : (es : List Pair) (s : State) → length (s .replaced) ≤ length (tryEdges o m μ s es .replaced)
   edges-grow es s = tryEdges-always o m μ (λ t. length (s .replaced) ≤ length (t .replaced)) (go-grows (length (s .replaced))) es s (le-of-eq refl)
 
   rounds-grow : (k : ℕ) (s : State) → length (s .replaced) ≤ length (rounds o m μ k s .replaced)
@@ -168,7 +168,7 @@ module _ (o : Options) (m : Mesh) (μ : Measure) where
       omega (arith, length-append (map (λ e. e .a) es) (s .replaced), length-map es (λ e. e .a))
 
   -- a trial leaves all as it is, or a vertex goes
-  edge-cases : (s : State) (e : Pair) → joins (size m) e ≡ true → (tryEdge o m μ s e ≡ s) ⊎ (length (s .replaced) < length (tryEdge o m μ s e .replaced))
+  pub edge-cases : (s : State) (e : Pair) → joins (size m) e ≡ true → (tryEdge o m μ s e ≡ s) ⊎ (length (s .replaced) < length (tryEdge o m μ s e .replaced))
   edge-cases s e j =
       tryEdge-keeps o m μ (joins (size m)) (Joined (size m)) (λ f k. (joined (size m) f k, joined-back (size m) (f .a) (f .b) (joined (size m) f k))) (λ t. (t ≡ s) ⊎ (length (s .replaced) < length (t .replaced)))
       (λ t a b i r q. inr (elim q [

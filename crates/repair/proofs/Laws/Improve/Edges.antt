@@ -99,17 +99,21 @@ unfolding allEdges
 edges-join n [] h = refl
 edges-join n (t ∷ ts) h = every-append (joins n) (edgesOf t) (allEdges ts) (four-joins n t (h t (List·Memᴰ·head refl))) (edges-join n ts (λ u k. h u (List·Memᴰ·tail k)))
 
--- the edges that a round takes
-pub listed-join : (n : ℕ) (μ : Measure) (h : Float) (ts : List Tet) → Proper n (map verticesOf ts) → every (joins n) (listedEdges μ h ts) ≡ true
+-- the edges that a round takes pass a test that all edges of bad elements pass
+listed-every : (p : Pair → Bool) (μ : Measure) (h : Float) (ts : List Tet) → every p (allEdges (keep (isBad μ) ts)) ≡ true → every p (listedEdges μ h ts) ≡ true
 unfolding listedEdges
-listed-join n μ h ts P =
-    every-unique (joins n) samePair (sort (leEdge μ) (keep short bads))
-    (every-sort (joins n) (leEdge μ) (keep short bads)
-    (every-keep (joins n) short bads
-    (edges-join n (keep (isBad μ) ts) (λ t k. tet-of {n = n} P (Memᴰ·map verticesOf (kept-elim (isBad μ) ts k .0))))))
+listed-every p μ h ts k =
+    every-unique p samePair (sort (leEdge μ) (keep short bads)) (every-sort p (leEdge μ) (keep short bads) (every-keep p short bads k))
   where
     short : Pair → Bool
     short e = lt (μ .length e) (threeQuarters *₆₄ h)
 
     bads : List Pair
     bads = allEdges (keep (isBad μ) ts)
+
+-- they join two different vertices of an element
+pub listed-joins : (n : ℕ) (μ : Measure) (h : Float) (ts : List Tet) → ((t : Tet) → List·Memᴰ t ts → IsElement n (verticesOf t)) → every (joins n) (listedEdges μ h ts) ≡ true
+listed-joins n μ h ts f = listed-every (joins n) μ h ts (edges-join n (keep (isBad μ) ts) (λ t k. f t (kept-elim (isBad μ) ts k .0)))
+
+pub listed-join : (n : ℕ) (μ : Measure) (h : Float) (ts : List Tet) → Proper n (map verticesOf ts) → every (joins n) (listedEdges μ h ts) ≡ true
+listed-join n μ h ts P = listed-joins n μ h ts (λ t k. tet-of {n = n} P (Memᴰ·map verticesOf k))

@@ -9,7 +9,7 @@ use native.Mathlib.Omega.{arith}
 use borrow.Author.Tests.{ltb-true, not-true, not-false}
 use lib.Dec.{ltb}
 use Rattle.mesh.specs.declared.element.Tet.{Tet}
-use Rattle.mesh.specs.Complex.{mem, sub, Nodup, Sub, Proper}
+use Rattle.mesh.specs.Complex.{IsElement, mem, sub, Nodup, Sub, Proper}
 use Rattle.mesh.specs.Tests.{every, nodup, under}
 use Rattle.mesh.specs.Element.{verticesOf}
 use Rattle.mesh.specs.Boundary.{boundaryNumber}
@@ -39,7 +39,7 @@ gate : (t : Bool) (k r : ℕ) → k ≢ 0 → cond t k r ≡ 0 → (t ≡ false)
 gate true k r n h = absurd (n h)
 gate false k r n h = (refl, h)
 
-or-none : (a b : Bool) → (a || b) ≡ false → (a ≡ false) × (b ≡ false)
+pub or-none : (a b : Bool) → (a || b) ≡ false → (a ≡ false) × (b ≡ false)
 or-none true b h = absurd (clash refl h)
 or-none false b h = (refl, h)
 
@@ -81,11 +81,11 @@ intake-passed g h =
 
 -- ---- the elements are proper
 
-nodup-sound : (e : List ℕ) → nodup e ≡ true → Nodup e
+pub nodup-sound : (e : List ℕ) → nodup e ≡ true → Nodup e
 nodup-sound [] h = tt
 nodup-sound (x ∷ e) h = (not-true (mem x e) (and-fst (not (mem x e)) (nodup e) h), nodup-sound e (and-snd (not (mem x e)) (nodup e) h))
 
-under-sound : (n : ℕ) (e : List ℕ) → under n e ≡ true → (x : ℕ) → mem x e ≡ true → x < n
+pub under-sound : (n : ℕ) (e : List ℕ) → under n e ≡ true → (x : ℕ) → mem x e ≡ true → x < n
 under-sound n [] h x m = absurd (mem-nil x m)
 under-sound n (y ∷ e) h x m =
     elim (mem-cases x y e m) [
@@ -93,17 +93,21 @@ under-sound n (y ∷ e) h x m =
       | inr q ↦ under-sound n e (and-snd (ltb y n) (under n e) h) x q
     ]
 
+-- an element with four different vertices below n
+pub numbered-element : (n : ℕ) (t : Tet) → wellNumbered n t ≡ true → IsElement n (verticesOf t)
+numbered-element n t h = record {
+  four = refl;
+  distinct = nodup-sound (verticesOf t) (and-snd (under n (verticesOf t)) (nodup (verticesOf t)) h);
+  below = under-sound n (verticesOf t) (and-fst (under n (verticesOf t)) (nodup (verticesOf t)) h);
+}
+
 pub proper-of : (n : ℕ) (ts : List Tet) → every (wellNumbered n) ts ≡ true → allDifferent ts ≡ true → Proper n (map verticesOf ts)
 unfolding allDifferent
 proper-of n [] w d = tt
 proper-of n (t ∷ ts) w d =
     let here = and-fst (wellNumbered n t) (every (wellNumbered n) ts) w in
     let apart = and-fst (every (λ u. not (sameVertices t u)) ts) (allDifferent ts) d in (
-      record {
-        four = refl;
-        distinct = nodup-sound (verticesOf t) (and-snd (under n (verticesOf t)) (nodup (verticesOf t)) here);
-        below = under-sound n (verticesOf t) (and-fst (under n (verticesOf t)) (nodup (verticesOf t)) here);
-      },
+      numbered-element n t here,
       (λ f m s r.
           let k = Memᴰ·of-map verticesOf ts m in
           let p : sub (verticesOf t) (verticesOf (k .0)) ≡ true = sub-intro (verticesOf t) (verticesOf (k .0)) (subst (λ e. Sub (verticesOf t) e) (sym (k .2)) s) in

@@ -50,7 +50,7 @@ keep-only p k (suc n) v l u h only =
 
 -- ---- groups
 
-ranks-sound : (r s : Ranks) → sameRanks r s ≡ true → r ≡ s
+pub ranks-sound : (r s : Ranks) → sameRanks r s ≡ true → r ≡ s
 ranks-sound r s h =
     let k = and-snd (eqb (r .x) (s .x)) (eqb (r .y) (s .y) && eqb (r .z) (s .z)) h in
     join (r .x) (r .y) (r .z) (s .x) (s .y) (s .z)

@@ -1,0 +1,6 @@
+-- The laws of a pair's tests.
+pub mod Scan
+pub mod Slots
+pub mod Gathered
+pub mod Part
+pub mod Whole

@@ -1,0 +1,247 @@
+-- The pass on whole buffers: intake, all groups, and what the buffers hold afterwards. Assumes nothing.
+use mathlib.Core.Path.{_≡_, refl, sym, ap, ap₂, subst, subst₂, _∙_}
+use mathlib.Core.Logic.{_≢_}
+use mathlib.Core.Bool.{Bool, true, false, cond, _||_}
+use mathlib.Core.List.{List, [], _∷_, _++_}
+use mathlib.Core.Option.{Option, none, some}
+use Prim.Native.Nat.{ℕ, zero, suc, _+_, _*_, _≤_}
+use native.Mathlib.Omega.{arith}
+use borrow.Author.Tests.{ltb-false, ne-eqb}
+use lib.Dec.{eqb, ltb}
+use lib.Ieee.{Float, lt}
+use lib.ListN.{length, take, drop, take-append-drop}
+use lib.Seq.{length-take-le}
+use Rattle.geometry.specs.declared.point.Point.{Point}
+use Rattle.geometry.specs.declared.bounds.Options.{Options}
+use Rattle.geometry.specs.declared.field.Field.{Field}
+use Rattle.geometry.specs.Literals.{fifteenHundredths}
+use Rattle.mesh.specs.declared.intake.Sizes.{Sizes}
+use Rattle.mesh.specs.declared.intake.Lengths.{Lengths}
+use Rattle.mesh.specs.declared.star.Index.{Index}
+use Rattle.mesh.specs.Words.{pointsOf}
+use Rattle.mesh.specs.Tests.{every}
+use Rattle.mesh.specs.Element.{tets}
+use Rattle.mesh.specs.Group.{groups}
+use Rattle.mesh.specs.Intake.{tooMany, tooShort, wellNumbered, givenOf, intake}
+use Rattle.mesh.proofs.Laws.Intake.Chains.{neither-left, neither-right}
+use Rattle.mesh.proofs.Laws.Intake.Room.{counts-few, slices-hold}
+use Rattle.mesh.proofs.Laws.Intake.Reads.{length-tets, length-points}
+use Rattle.repair.specs.declared.answer.Answer.{Answer}
+use Rattle.repair.specs.declared.answer.Answer.the-variants.{Done, Refused}
+use Rattle.repair.specs.Mesh.{Mesh, made, refused, measure, lowestOf}
+use Rattle.repair.specs.Smooth as Smooth
+use Rattle.repair.specs.Smooth.{aboutGroup, bestFor, taken, smoothGroup, smoothGroups}
+use Rattle.repair.specs.Step as Step
+use Rattle.repair.specs.Step.{Call, Pass, triplesOf, meshOf, floatsOf, elementWords, tripleWords, over, committed, given, lengthsOf, resultOf, step}
+use Rattle.repair.specs.Site.{stateOf, Turned, meshFor}
+use Rattle.repair.proofs.Laws.Improve.Intake.{Passed, intake-passed}
+
+-- ---- buffers and their values
+
+floats-front : (n : ℕ) (s : List Float) → 3 * n ≤ length s → floatsOf (pointsOf n s) ≡ take (3 * n) s
+unfolding pointsOf floatsOf
+floats-front zero s h = refl
+floats-front (suc n) [] h = absurd (omega (arith, h))
+floats-front (suc n) (a ∷ []) h = absurd (omega (arith, h))
+floats-front (suc n) (a ∷ b ∷ []) h = absurd (omega (arith, h))
+floats-front (suc n) (a ∷ b ∷ c ∷ s) h =
+    let e : 3 * suc n ≡ suc (suc (suc (3 * n))) = omega arith in
+    ap (λ (l : List Float). a ∷ b ∷ c ∷ l) (floats-front n s (omega (arith, h))) ∙ sym (ap (λ k. take k (a ∷ b ∷ c ∷ s)) e)
+
+elements-front : (n : ℕ) (s : List ℕ) → 4 * n ≤ length s → elementWords (tets n s) ≡ take (4 * n) s
+unfolding tets elementWords
+elements-front zero s h = refl
+elements-front (suc n) [] h = absurd (omega (arith, h))
+elements-front (suc n) (a ∷ []) h = absurd (omega (arith, h))
+elements-front (suc n) (a ∷ b ∷ []) h = absurd (omega (arith, h))
+elements-front (suc n) (a ∷ b ∷ c ∷ []) h = absurd (omega (arith, h))
+elements-front (suc n) (a ∷ b ∷ c ∷ d ∷ s) h =
+    let e : 4 * suc n ≡ suc (suc (suc (suc (4 * n)))) = omega arith in
+    ap (λ (l : List ℕ). a ∷ b ∷ c ∷ d ∷ l) (elements-front n s (omega (arith, h))) ∙ sym (ap (λ k. take k (a ∷ b ∷ c ∷ d ∷ s)) e)
+
+triples-front : (n : ℕ) (s : List ℕ) → 3 * n ≤ length s → tripleWords (triplesOf n s) ≡ take (3 * n) s
+unfolding triplesOf tripleWords
+triples-front zero s h = refl
+triples-front (suc n) [] h = absurd (omega (arith, h))
+triples-front (suc n) (a ∷ []) h = absurd (omega (arith, h))
+triples-front (suc n) (a ∷ b ∷ []) h = absurd (omega (arith, h))
+triples-front (suc n) (a ∷ b ∷ c ∷ s) h =
+    let e : 3 * suc n ≡ suc (suc (suc (3 * n))) = omega arith in
+    ap (λ (l : List ℕ). a ∷ b ∷ c ∷ l) (triples-front n s (omega (arith, h))) ∙ sym (ap (λ k. take k (a ∷ b ∷ c ∷ s)) e)
+
+length-triples : (n : ℕ) (s : List ℕ) → length (triplesOf n s) ≡ n
+unfolding triplesOf
+length-triples zero s = refl
+length-triples (suc n) s = ap suc (length-triples n (drop 3 s))
+
+-- a front put over a buffer that is the same behind it
+over-is : {A : Type 0} (front old new : List A) (k : ℕ) → k ≤ length new → front ≡ take k new → drop k new ≡ drop k old → over front old ≡ new
+over-is {A} front old new k h e f =
+    let l : length front ≡ k = ap length e ∙ length-take-le k new h in
+    ap₂ (λ (u v : List A). u ++ v) e (ap (λ i. drop i old) l ∙ sym f) ∙ take-append-drop k new
+
+-- ---- what intake's 0 says of the lengths
+
+-- counts within their limits, and slices long enough
+pub record Fitting (s : Sizes) (l : Lengths) : Type 0 where
+  pub vertices : s .vertices ≤ 4096
+  pub elements : s .elements ≤ 16384
+  pub parameters : 3 * s .vertices ≤ l .parameters
+  pub points : 3 * s .vertices ≤ l .points
+  pub masks : s .vertices ≤ l .masks
+  pub slots : 4 * s .elements ≤ l .elements
+  pub surface : 3 * s .triples ≤ l .surface
+  pub words : 256 * s .elements + 32 * s .vertices + 1024 ≤ l .words
+
+fitting : (s : Sizes) (l : Lengths) → (tooMany s || tooShort s l) ≡ false → Fitting s l
+fitting s l h =
+    let t₁ = ltb (l .parameters) (3 * s .vertices) in
+    let t₂ = ltb (l .points) (3 * s .vertices) in
+    let t₃ = ltb (l .masks) (s .vertices) in
+    let t₄ = ltb (l .surface) (3 * (4 * s .elements)) in
+    let t₅ = ltb (l .elements) (4 * (2 * s .elements)) in
+    let t₆ = ltb (l .words) (256 * s .elements + 32 * s .vertices + 1024) in
+    let t₇ = ltb (l .floats) (16 * s .vertices) in
+    let h₁ = neither-right (tooMany s) (tooShort s l) h in
+    let h₂ = neither-right t₁ (t₂ || (t₃ || (t₄ || (t₅ || (t₆ || t₇))))) h₁ in
+    let h₃ = neither-right t₂ (t₃ || (t₄ || (t₅ || (t₆ || t₇)))) h₂ in
+    let h₆ = neither-right t₅ (t₆ || t₇) (neither-right t₄ (t₅ || (t₆ || t₇)) (neither-right t₃ (t₄ || (t₅ || (t₆ || t₇))) h₃)) in
+    let few = counts-few s (neither-left (tooMany s) (tooShort s l) h) in
+    let hold = slices-hold s l h in
+    record {
+      vertices = few .0;
+      elements = few .1;
+      parameters = ltb-false (l .parameters) (3 * s .vertices) (neither-left t₁ (t₂ || (t₃ || (t₄ || (t₅ || (t₆ || t₇))))) h₁);
+      points = ltb-false (l .points) (3 * s .vertices) (neither-left t₂ (t₃ || (t₄ || (t₅ || (t₆ || t₇)))) h₂);
+      masks = ltb-false (l .masks) (s .vertices) (neither-left t₃ (t₄ || (t₅ || (t₆ || t₇))) h₃);
+      slots = hold .0;
+      surface = hold .1;
+      words = ltb-false (l .words) (256 * s .elements + 32 * s .vertices + 1024) (neither-left t₆ t₇ h₆);
+    }
+
+-- ---- the mesh beside the state
+
+-- the elements and the masks alone
+abbrev only : Mesh → Mesh
+only m = record { parameters = []; points = []; masks = m .masks; elements = m .elements; surface = [] }
+
+module _ (o : Options) (F : List Field) (R : Option (List ℕ)) (m : Mesh) where
+  taken-only : (s : Smooth.State) (g : List ℕ) (r : Option Point) → taken o F R m s g r ≡ taken o F R (only m) s g r
+  taken-only s g none = refl
+  taken-only s g (some p) = refl
+
+  group-only : (s : Smooth.State) (g : List ℕ) → smoothGroup o F R m s g ≡ smoothGroup o F R (only m) s g
+  unfolding smoothGroup bestFor
+  group-only s [] = refl
+  group-only s (v ∷ g) =
+      ap (λ u. cond (lt (lowestOf (measure (s .points)) (aboutGroup (m .elements) (v ∷ g))) fifteenHundredths) u s)
+      (taken-only s (v ∷ g) (bestFor o F R m s v (v ∷ g) .found))
+
+  groups-only : (s : Smooth.State) (gs : List (List ℕ)) → smoothGroups o F R m s gs ≡ smoothGroups o F R (only m) s gs
+  unfolding smoothGroups
+  groups-only s [] = refl
+  groups-only s (g ∷ gs) = groups-only (smoothGroup o F R m s g) gs ∙ ap (λ u. smoothGroups o F R (only m) u gs) (group-only s g)
+
+-- ---- the call
+
+module _ (sizes : Sizes) (o : Options) (count : ℕ) (fields : List Field) (R : Option (List ℕ)) (P Q : List Float) (masks els surface work : List ℕ) (floats : List Float) where
+  -- the call, and the buffers before it
+  abbrev pub call : Call
+  call = record { pass = Pass.smooth; options = o; fields = fields; count = count; regions = R; words = length work; floats = length floats }
+
+  abbrev pub buffers : List Float → List Float → Step.State
+  buffers P Q = record { parameters = P; points = Q; masks = masks; elements = els; surface = surface; sizes = sizes }
+
+  abbrev number : ℕ
+  number = intake (given (lengthsOf call (buffers P Q)) call (buffers P Q))
+
+  module _ (k : ℕ) (floats′ : List Float) (long : length floats′ ≡ length floats) (e : k ≡ intake (givenOf sizes o count fields P Q masks els surface work floats′)) where
+    number-is : k ≡ number
+    unfolding given givenOf meshOf
+    number-is = e ∙ ap (λ n. intake (record {
+      sizes = sizes;
+      lengths = record { parameters = length P; points = length Q; masks = length masks; elements = length els; surface = length surface; words = length work; floats = n };
+      options = o;
+      count = count;
+      fields = fields;
+      parameters = pointsOf (sizes .vertices) P;
+      points = pointsOf (sizes .vertices) Q;
+      elements = tets (sizes .elements) els;
+    })) long
+
+    -- refused
+    pub pass-refused : k ≢ 0 → _≡_ {A = Answer × Step.State} (Refused k, buffers P Q) (step call (buffers P Q))
+    unfolding step
+    pass-refused n =
+        sym (ap (λ j. Step.finish (buffers P Q) (cond (eqb j 0) (resultOf Pass.smooth call (meshOf (buffers P Q))) (refused j))) (sym number-is)
+        ∙ ap (λ b. Step.finish (buffers P Q) (cond b (resultOf Pass.smooth call (meshOf (buffers P Q))) (refused k))) (ne-eqb k 0 n))
+
+    -- not refused
+    module _ (z : k ≡ 0) where
+      passed : Passed (given (lengthsOf call (buffers P Q)) call (buffers P Q))
+      passed = intake-passed (given (lengthsOf call (buffers P Q)) call (buffers P Q)) (sym number-is ∙ z)
+
+      pub fits : Fitting sizes (lengthsOf call (buffers P Q))
+      unfolding given
+      fits = fitting sizes (lengthsOf call (buffers P Q)) (neither (passed .few) (passed .long))
+        where
+          neither : {a b : Bool} → a ≡ false → b ≡ false → (a || b) ≡ false
+          neither p q = rw (p, q)
+
+      pub numbered : every (wellNumbered (sizes .vertices)) (tets (sizes .elements) els) ≡ true
+      unfolding given meshOf
+      numbered = passed .numbered
+
+      -- all groups had their turn
+      module _ (x : Index) (ev : x .vertices ≡ sizes .vertices) (en : x .room ≡ sizes .elements) (P′ Q′ : List Float) (moved : ℕ)
+          (T : Turned (x .vertices) (smoothGroups o (take count fields) R (meshFor x masks els) (stateOf (x .vertices) P Q 0) (groups o (pointsOf (x .vertices) P))) P Q P′ Q′ moved) where
+        nv : ℕ
+        nv = sizes .vertices
+
+        m : Mesh
+        m = meshOf (buffers P Q)
+
+        F : List Field
+        F = take count fields
+
+        -- the same turn by the call's numbers
+        T′ : Turned nv (smoothGroups o F R m (stateOf nv P Q 0) (groups o (pointsOf nv P))) P Q P′ Q′ moved
+        unfolding nv m F meshOf
+        T′ =
+            subst (λ (u : Smooth.State). Turned (sizes .vertices) u P Q P′ Q′ moved)
+            (sym (groups-only o (take count fields) R (meshOf (buffers P Q)) (stateOf (sizes .vertices) P Q 0) (groups o (pointsOf (sizes .vertices) P))))
+            (subst₂ (λ v n. Turned v (smoothGroups o (take count fields) R
+            (record { parameters = []; points = []; masks = take v masks; elements = tets n els; surface = [] }) (stateOf v P Q 0) (groups o (pointsOf v P))) P Q P′ Q′ moved) ev en T)
+
+        -- what the pass makes
+        result : Mesh
+        result = record { parameters = pointsOf nv P′; points = pointsOf nv Q′; masks = m .masks; elements = m .elements; surface = m .surface }
+
+        result-is : Smooth.smooth o F R m ≡ made moved result
+        unfolding Smooth.smooth result nv m F meshOf
+        result-is = ap (λ (s : Smooth.State). made (s .moved) (record { parameters = s .parameters; points = s .points; masks = take (sizes .vertices) masks; elements = tets (sizes .elements) els; surface = triplesOf (sizes .triples) surface })) (sym (T′ .state))
+
+        sizes-are : Step.sizesOf result ≡ sizes
+        unfolding result nv m meshOf
+        sizes-are = λ j. record { vertices = length-points (sizes .vertices) Q′ j; elements = length-tets (sizes .elements) els j; triples = length-triples (sizes .triples) surface j }
+
+        floats-are : (S S′ : List Float) → 3 * nv ≤ length S → length S′ ≡ length S → drop (3 * nv) S′ ≡ drop (3 * nv) S → over (floatsOf (pointsOf nv S′)) S ≡ S′
+        floats-are S S′ h l e = over-is (floatsOf (pointsOf nv S′)) S S′ (3 * nv) (omega (arith, h, l)) (floats-front nv S′ (omega (arith, h, l))) e
+
+        buffers-are : committed result (buffers P Q) ≡ buffers P′ Q′
+        unfolding committed result nv m meshOf
+        buffers-are =
+            let f = fits in
+            let a = floats-are P P′ (f .parameters) (T′ .long .0) (T′ .parameters) in
+            let b = floats-are Q Q′ (f .points) (T′ .long .1) (T′ .points) in
+            let c = over-is (take (sizes .vertices) masks) masks masks (sizes .vertices) (f .masks) refl refl in
+            let d = over-is (elementWords (tets (sizes .elements) els)) els els (4 * sizes .elements) (f .slots) (elements-front (sizes .elements) els (f .slots)) refl in
+            let g = over-is (tripleWords (triplesOf (sizes .triples) surface)) surface surface (3 * sizes .triples) (f .surface) (triples-front (sizes .triples) surface (f .surface)) refl in
+            λ j. record { parameters = a j; points = b j; masks = c j; elements = d j; surface = g j; sizes = sizes-are j }
+
+        pub pass-done : _≡_ {A = Answer × Step.State} (Done moved sizes, buffers P′ Q′) (step call (buffers P Q))
+        unfolding step resultOf m F
+        pass-done =
+            sym (ap (λ j. Step.finish (buffers P Q) (cond (eqb j 0) (Smooth.smooth o F R m) (refused j))) (sym number-is ∙ z)
+            ∙ ap (Step.finish (buffers P Q)) result-is
+            ∙ ap₂ (λ (a : Sizes) (b : Step.State). (Done moved a, b)) sizes-are buffers-are)

@@ -1,0 +1,78 @@
+-- Loops over the vertices of a group and over the elements about it: what is left from here on is the whole. Assumes nothing.
+use mathlib.Core.Path.{_≡_, refl, sym, ap, _∙_}
+use mathlib.Core.Bool.{Bool, true, false, _&&_}
+use mathlib.Core.List.{List, map}
+use Prim.Native.Nat.{ℕ, suc, _+_, _-_, _≤_, _<_}
+use native.Mathlib.Omega.{arith}
+use borrow.Author.Tests.{eq-eqb, ne-eqb}
+use lib.Ieee.{Float}
+use Rattle.geometry.specs.declared.point.Point.{Point}
+use Rattle.geometry.specs.Float.{smaller, one64}
+use Rattle.geometry.specs.Score.{lowestFrom, lowest}
+use Rattle.mesh.specs.Words.{wordAt}
+use Rattle.mesh.specs.Complex.{mem}
+use Rattle.mesh.specs.Tests.{every}
+use Rattle.mesh.specs.Intake.{tetAt}
+use Rattle.repair.specs.Mesh.{measure, scoreOf, lowestOf}
+use Rattle.repair.specs.Site.{members, about}
+
+-- ---- vertices of a group
+
+module _ (w : List ℕ) (i left v : ℕ) (h : 0 < left) where
+  -- v is the next one
+  pub member-found : v ≡ wordAt w i → mem v (members w i left) ≡ true
+  unfolding members
+  member-found e =
+      let k : left ≡ suc (left - 1) = omega arith in
+      ap (λ (n : ℕ). mem v (members w i n)) k ∙ rw (eq-eqb v (wordAt w i) e)
+
+  -- v is not the next one
+  pub member-turn : (v ≡ wordAt w i → ⊥) → mem v (members w (i + 7) (left - 1)) ≡ mem v (members w i left)
+  unfolding members
+  member-turn e =
+      let k : left ≡ suc (left - 1) = omega arith in
+      sym (ap (λ (n : ℕ). mem v (members w i n)) k ∙ rw (ne-eqb v (wordAt w i) e))
+
+-- none is left
+pub member-end : (w : List ℕ) (i left v : ℕ) → left ≤ 0 → mem v (members w i left) ≡ false
+unfolding members
+member-end w i left v h = let k : left ≡ 0 = omega arith in rw k
+
+-- ---- elements about a group
+
+module _ (els w : List ℕ) (ps : List Point) where
+  -- the lowest of low and the scores of the elements left
+  abbrev pub lowLeft : ℕ → ℕ → Float → Float
+  lowLeft i left low = lowestFrom low (map (scoreOf ps) (about els w i left))
+
+  -- whether all determinants left are above 0
+  abbrev pub aboveLeft : ℕ → ℕ → Bool
+  aboveLeft i left = every (measure ps .above) (about els w i left)
+
+  pub low-start : (i left : ℕ) → lowLeft i left one64 ≡ lowestOf (measure ps) (about els w i left)
+  unfolding lowest
+  low-start i left = refl
+
+  pub low-turn : (i left : ℕ) (low : Float) → 0 < left → lowLeft (i + 1) (left - 1) (smaller low (scoreOf ps (tetAt els (wordAt w i)))) ≡ lowLeft i left low
+  unfolding about lowestFrom
+  low-turn i left low h = let k : left ≡ suc (left - 1) = omega arith in sym (ap (λ (n : ℕ). lowLeft i n low) k)
+
+  pub low-end : (i left : ℕ) (low : Float) → left ≤ 0 → lowLeft i left low ≡ low
+  unfolding about lowestFrom
+  low-end i left low h = let k : left ≡ 0 = omega arith in rw k
+
+  pub above-turn : (i left : ℕ) → 0 < left → measure ps .above (tetAt els (wordAt w i)) ≡ true → aboveLeft (i + 1) (left - 1) ≡ aboveLeft i left
+  unfolding about
+  above-turn i left h e =
+      let k : left ≡ suc (left - 1) = omega arith in
+      sym (ap (aboveLeft i) k ∙ ap (λ (b : Bool). b && aboveLeft (i + 1) (left - 1)) e)
+
+  pub above-fail : (i left : ℕ) → 0 < left → measure ps .above (tetAt els (wordAt w i)) ≡ false → aboveLeft i left ≡ false
+  unfolding about
+  above-fail i left h e =
+      let k : left ≡ suc (left - 1) = omega arith in
+      ap (aboveLeft i) k ∙ ap (λ (b : Bool). b && aboveLeft (i + 1) (left - 1)) e
+
+  pub above-end : (i left : ℕ) → left ≤ 0 → aboveLeft i left ≡ true
+  unfolding about
+  above-end i left h = let k : left ≡ 0 = omega arith in rw k

@@ -1,0 +1,74 @@
+-- The work of `smooth`: what lies below the area stays, and with it groups, slots and index. Assumes nothing.
+use mathlib.Core.Path.{_≡_, refl, sym, ap, ap₂, subst, _∙_}
+use mathlib.Core.List.{List, _∷_}
+use Prim.Native.Nat.{ℕ, zero, suc, _+_, _*_, _≤_}
+use native.Mathlib.Omega.{arith}
+use lib.ListN.{length}
+use Rattle.mesh.specs.declared.star.Index.{Index}
+use Rattle.mesh.specs.Rows.{rows}
+use Rattle.mesh.specs.Complex.{Nodup}
+use Rattle.mesh.specs.Tests.{every, under}
+use Rattle.mesh.specs.Intake.{wellNumbered}
+use Rattle.mesh.specs.Star.{Laid}
+use Rattle.mesh.proofs.Laws.Rows.{rows-same}
+use Rattle.mesh.proofs.Laws.Star.Calls.{answered-complete, answered-elements}
+use Rattle.repair.specs.Layout.{Room, slotsIn}
+use Rattle.repair.specs.Site.{members, SameTo, Ready, Rows}
+
+-- ---- the layout
+
+-- the areas lie one behind the other
+pub room-laid : (x : Index) (m : ℕ) → Room x (x .room) m → Laid x m
+room-laid x m r = record {
+  few = let a = r .elements in omega arith;
+  nexts = let a = r .nexts in omega arith;
+  heads = let a = r .heads in omega arith;
+  lengths = let a = r .lengths in omega arith;
+  area = let a = r .area in omega arith;
+  end = let a = r .area in let b = r .lengths in let c = r .heads in let d = r .nexts in let e = r .slots in let f = r .long in omega arith;
+}
+
+-- ---- what stays
+
+pub same-trans : (a : ℕ) (s t u : List ℕ) → SameTo a s t → SameTo a t u → SameTo a s u
+same-trans a s t u p q = record { long = q .long ∙ p .long; before = λ j h. q .before j h ∙ p .before j h }
+
+module _ (x : Index) (w w′ : List ℕ) (r : Ready x w) (e : SameTo (x .area) w w′) where
+  -- the slots
+  pub slots-kept : slotsIn x (x .room) w′ ≡ slotsIn x (x .room) w
+  slots-kept = answered-elements x w (x .room) (room-laid x (length w) (r .room)) (omega arith) (r .index) w′ (e .before)
+
+  -- all of it
+  pub ready-kept : Ready x w′
+  ready-kept = record {
+    room = subst (Room x (x .room)) (sym (e .long)) (r .room);
+    index = answered-complete x w (x .room) (room-laid x (length w) (r .room)) (omega arith) (r .index) w′ (e .before);
+    proper = ap (every (wellNumbered (x .vertices))) slots-kept ∙ r .proper;
+  }
+
+  -- the rows of the groups
+  pub rows-kept : rows 7 (x .vertices) w′ ≡ rows 7 (x .vertices) w
+  rows-kept =
+      let a = r .room .area in let b = r .room .lengths in let c = r .room .heads in let d = r .room .nexts in let f = r .room .slots in
+      rows-same 7 (x .vertices) w′ w 0 (e .long) (λ j g h. e .before j (omega (arith, a, b, c, d, f)))
+
+-- the vertices of a group
+pub members-kept : (a : ℕ) (w w′ : List ℕ) → SameTo a w w′ → (i k : ℕ) → i + 7 * k ≤ a + 6 → members w′ i k ≡ members w i k
+unfolding members
+members-kept a w w′ e i zero h = refl
+members-kept a w w′ e i (suc k) h = ap₂ (λ (v : ℕ) (l : List ℕ). v ∷ l) (e .before i (omega arith)) (members-kept a w w′ e (i + 7) k (omega arith))
+
+module _ (x : Index) (w w′ : List ℕ) (r : Ready x w) (e : SameTo (x .area) w w′) (i k : ℕ) (g : Rows x w i k) where
+  pub group-same : members w′ i k ≡ members w i k
+  group-same =
+      let a = r .room .area in let b = r .room .lengths in let c = r .room .heads in let d = r .room .nexts in let f = r .room .slots in
+      let h = g .inside in
+      members-kept (x .area) w w′ e i k (omega arith)
+
+  pub group-kept : Rows x w′ i k
+  group-kept = record {
+    some = g .some;
+    inside = g .inside;
+    once = subst (λ l. Nodup l) (sym group-same) (g .once);
+    below = ap (under (x .vertices)) group-same ∙ g .below;
+  }

@@ -1,0 +1,38 @@
+-- `repair::trial::measure_element` meets its contract. Assumes nothing.
+use borrow.Author.Needs.{needs}
+use Rattle.repair.proofs.trial.measure_element.Statement.{statement}
+use Rattle.repair.proofs.trial.measure_element.Tie as tie
+
+trial-point-requires : tie.Need-trial-point-requires
+trial-point-requires c κs = search needs
+
+trial-point-requires-2 : tie.Need-trial-point-requires-2
+trial-point-requires-2 c κs = search needs
+
+trial-point-requires-3 : tie.Need-trial-point-requires-3
+trial-point-requires-3 c κs = search needs
+
+trial-point-requires-4 : tie.Need-trial-point-requires-4
+trial-point-requires-4 c κs = search needs
+
+determinant-requires : tie.Need-determinant-requires
+determinant-requires c κs = search needs
+
+score-requires : tie.Need-score-requires
+score-requires c κs = search needs
+
+returns : tie.Need-returns
+unfolding lib.Ieee.ofBits
+returns c = cc
+
+pub measure-element-spec : {M : Type 1} → statement M
+measure-element-spec =
+    tie.close
+    (tie.spec
+    trial-point-requires
+    trial-point-requires-2
+    trial-point-requires-3
+    trial-point-requires-4
+    determinant-requires
+    score-requires
+    returns)

@@ -1,0 +1,154 @@
+// `improve`: rounds of edge collapses, then the vertices that are left, renumbered.
+use crate::answer::Answer;
+use crate::begin::begin;
+use crate::finish::finish_improve;
+use crate::layout::layout;
+use crate::pair::list_edges;
+use crate::round::round;
+use geometry::bounds::Options;
+use geometry::bounds::spacing;
+use geometry::field::Field;
+use mesh::about::live_elements;
+use mesh::intake::Sizes;
+use mesh::intake::intake;
+use mesh::star::Index;
+use mesh::words::clear;
+use mesh::words::clear_floats;
+ghost use mathlib.Core.Path.{_≡_};
+ghost use mathlib.Core.Bool.{true};
+ghost use mathlib.Core.Option.{none};
+ghost use Prim.Native.Nat.{_+_, _*_, _≤_};
+ghost use lib.ListN.{length};
+ghost use Rattle.mesh.specs.Words.{zeroWords, zeroFloats};
+ghost use Rattle.mesh.specs.Tests.{every};
+ghost use Rattle.mesh.specs.Element.{tets};
+ghost use Rattle.mesh.specs.Intake.{wellNumbered};
+ghost use Rattle.repair.specs.declared.answer.Answer.{Answer};
+ghost use Rattle.repair.specs.Mesh.{Mesh, measure};
+ghost use Rattle.repair.specs.Improve as def;
+ghost use Rattle.repair.specs.Layout.{Stands, Reads, Ready};
+ghost use Rattle.repair.specs.Finish.{sizesAfter};
+ghost use Rattle.repair.specs.Step.{State, Pass, finish, meshOf, step};
+ghost use Rattle.repair.specs.Fitting.{Fitting};
+
+// At most o.passes rounds, ended by one that collapses nothing. Gives how many vertices were replaced.
+fn rounds(
+    work: &mut [u32],
+    x: Index,
+    n: u32,
+    o: Options,
+    masks: &[u32],
+    parameters: &[f64],
+    points: &[f64],
+) -> usize
+    requires { ⌜ Ready o x n (now work) (now parameters) (now points) (now masks) × (o .passes ≤ 16) ⌝ }
+    ensures { λ r. ⌜ ((m : Mesh) (s : def.State) → Reads m (x .vertices) (now (parameters .entry)) (now (points .entry)) (now (masks .entry)) → Stands o m x n (now (work .entry)) s
+        → Stands o m x n (now (work .exit)) (def.rounds o m (measure (m .points)) (o .passes) s)
+        × (length (def.rounds o m (measure (m .points)) (o .passes) s .replaced) ≡ r + length (s .replaced))) ⌝ }
+{
+    let limit = 0.75 * spacing(o);
+    let mut replaced = 0;
+    let mut left = o.passes;
+    while 0 < left {
+        let count = list_edges(work, x, n, points, limit);
+        let k = round(work, x, n, count, o, masks, parameters, points);
+        if k == 0 {
+            return replaced;
+        }
+        replaced += k;
+        left -= 1;
+    }
+    replaced
+}
+
+// The pass on a mesh that passed intake.
+fn improve_all(
+    sizes: Sizes,
+    o: Options,
+    parameters: &mut [f64],
+    points: &mut [f64],
+    masks: &mut [u32],
+    elements: &mut [u32],
+    surface: &mut [u32],
+    work: &mut [u32],
+    floats: &mut [f64],
+) -> Answer
+    requires { ⌜ Fitting o (record { parameters = now parameters; points = now points; masks = now masks; elements = now elements; surface = now surface; sizes = sizes }) (now work) (length (now floats)) ⌝ }
+    ensures { λ r. ⌜ _≡_ {A = Answer × State}
+        (r, record { parameters = now (parameters .exit); points = now (points .exit); masks = now (masks .exit); elements = now (elements .exit); surface = now (surface .exit); sizes = sizesAfter r sizes })
+        (finish (record { parameters = now (parameters .entry); points = now (points .entry); masks = now (masks .entry); elements = now (elements .entry); surface = now (surface .entry); sizes = sizes })
+        (def.improve o (meshOf (record { parameters = now (parameters .entry); points = now (points .entry); masks = now (masks .entry); elements = now (elements .entry); surface = now (surface .entry); sizes = sizes })))) ⌝ }
+{
+    let n = sizes.elements as u32;
+    let x = layout(sizes.vertices as u32, n);
+    begin(work, x, n, o, parameters, elements);
+    let count = rounds(work, x, n, o, masks, parameters, points);
+    let k = live_elements(work, x, sizes.elements);
+    let a = x.area;
+    finish_improve(
+        sizes,
+        count,
+        k,
+        parameters,
+        points,
+        masks,
+        elements,
+        surface,
+        &mut work[a..],
+        floats,
+    )
+}
+
+// `improve` on whole buffers: intake, then the pass. Both work slices may hold anything before, and are all zeros afterwards.
+pub fn improve(
+    sizes: Sizes,
+    o: Options,
+    count: u32,
+    fields: [Field; 8],
+    parameters: &mut [f64],
+    points: &mut [f64],
+    masks: &mut [u32],
+    elements: &mut [u32],
+    surface: &mut [u32],
+    work: &mut [u32],
+    floats: &mut [f64],
+) -> Answer
+    ensures { λ r. ⌜ _≡_ {A = Answer × State}
+        (r, record { parameters = now (parameters .exit); points = now (points .exit); masks = now (masks .exit); elements = now (elements .exit); surface = now (surface .exit); sizes = sizesAfter r sizes })
+        (step (record { pass = Pass.improve; options = o; fields = fields; count = count; regions = none; words = length (now (work .entry)); floats = length (now (floats .entry)) })
+        (record { parameters = now (parameters .entry); points = now (points .entry); masks = now (masks .entry); elements = now (elements .entry); surface = now (surface .entry); sizes = sizes })) ⌝ }
+    ensures { λ _. ⌜ now (work .exit) ≡ zeroWords (length (now (work .entry))) ⌝ }
+    ensures { λ _. ⌜ now (floats .exit) ≡ zeroFloats (length (now (floats .entry))) ⌝ }
+{
+    let number = intake(
+        sizes,
+        o,
+        count,
+        fields,
+        parameters,
+        points,
+        masks,
+        elements,
+        surface,
+        work,
+        floats,
+    );
+    if number != 0 {
+        clear_floats(floats);
+        return Answer::Refused(number);
+    }
+    let answer = improve_all(
+        sizes,
+        o,
+        parameters,
+        points,
+        masks,
+        elements,
+        surface,
+        work,
+        floats,
+    );
+    clear(work);
+    clear_floats(floats);
+    answer
+}

@@ -1,0 +1,315 @@
+// `smooth`: groups of vertices of equal rank, in rank order, moved to the best of nine candidates. The work is laid out as for `improve`
+// (layout.rt), without flags, pairs and edges; the floats are not used.
+use crate::answer::Answer;
+use crate::best::Best;
+use crate::best::Start;
+use crate::best::best_candidate;
+use crate::candidate::active_count;
+use crate::candidate::active_fields;
+use crate::candidate::mean_of;
+use crate::group_move::move_group;
+use crate::layout::layout;
+use crate::trial::Site;
+use crate::trial::lowest_about;
+use geometry::bounds::Options;
+use geometry::bounds::canonical;
+use geometry::field::Field;
+use geometry::point::Point;
+use mesh::about::star_about;
+use mesh::group::group_in;
+use mesh::intake::Sizes;
+use mesh::intake::intake;
+use mesh::list::vertex_point;
+use mesh::rows::run_length;
+use mesh::star::Index;
+use mesh::star::build;
+use mesh::star::neighbours;
+use mesh::words::clear;
+use mesh::words::clear_floats;
+use mesh::words::copy_into;
+use mesh::words::word;
+ghost use mathlib.Core.Path.{_≡_};
+ghost use mathlib.Core.Bool.{true};
+ghost use mathlib.Core.List.{map};
+ghost use Prim.Native.Nat.{_+_, _*_, _≤_, _<_};
+ghost use lib.ListN.{length, take, drop};
+ghost use Rattle.mesh.specs.Words.{wordAt, pointAt, pointsOf, zeroWords, zeroFloats};
+ghost use Rattle.mesh.specs.Tests.{every};
+ghost use Rattle.mesh.specs.Element.{tets};
+ghost use Rattle.mesh.specs.Group.{groups};
+ghost use Rattle.mesh.specs.Intake.{wellNumbered};
+ghost use Rattle.repair.specs.declared.answer.Answer.{Answer};
+ghost use Rattle.repair.specs.Mesh.{measure, lowestOf};
+ghost use Rattle.repair.specs.Smooth.{mean, bestFor, smoothGroup, smoothGroups, aboutGroup};
+ghost use Rattle.repair.specs.Regions.{regionsOf};
+ghost use Rattle.repair.specs.Site.{members, stateOf, bestIn, Turned, SameTo, Ready, Slots, Rows, Listed, Started, meshFor, Grouped};
+ghost use Rattle.repair.specs.Step.{State, Pass, step};
+
+// Lists the elements about the group whose first vertex stands at `group`, and gives where all of it stands.
+fn list_about(work: &mut [u32], x: Index, group: usize, count: usize) -> Site
+    requires { ⌜ Ready x (now work) × Rows x (now work) group count ⌝ }
+    ensures { λ r. ⌜ Listed x group count (now (work .entry)) (now (work .exit)) r ⌝ }
+{
+    let n = star_about(work, x, group, count, 7);
+    Site {
+        vertices: x.vertices as usize,
+        group: group,
+        count: count,
+        area: x.area,
+        about: n,
+    }
+}
+
+// The mean of the parameters of the n vertices listed from a on.
+fn mean_at(parameters: &[f64], nv: usize, work: &[u32], a: usize, n: usize) -> Point
+    requires { ⌜ (n ≤ 4096) × (a ≤ length (now work)) ⌝ }
+    ensures { λ r. ⌜ r ≡ mean (map (pointAt (pointsOf nv (now (parameters .entry)))) (take n (drop a (now (work .entry))))) ⌝ }
+{
+    mean_of(parameters, nv, &work[a..], n)
+}
+
+// What the candidates start from, for the first vertex v of a group.
+fn start_from(o: Options, parameters: &[f64], work: &mut [u32], x: Index, v: u32) -> Start
+    requires { ⌜ Ready x (now work) × (v < x .vertices) ⌝ }
+    ensures { λ r. ⌜ Started o x (now (parameters .entry)) v (now (work .entry)) (now (work .exit)) r ⌝ }
+{
+    let nv = x.vertices as usize;
+    let n = neighbours(work, x, v);
+    let mean = mean_at(parameters, nv, work, x.area, n);
+    let original = vertex_point(parameters, nv, v);
+    Start {
+        original: original,
+        origin: canonical(original, o),
+        near: n,
+        mean: mean,
+    }
+}
+
+// The best candidate of a group whose lowest score is `lowest`.
+fn best_for(
+    o: Options,
+    count: usize,
+    fields: [Field; 8],
+    listed: bool,
+    regions: &[u32],
+    parameters: &[f64],
+    points: &[f64],
+    masks: &[u32],
+    elements: &[u32],
+    work: &mut [u32],
+    x: Index,
+    group: usize,
+    size: usize,
+    lowest: f64,
+) -> Best
+    requires { ⌜ Ready x (now work) × Rows x (now work) group size × Slots x (now elements) (now work) ⌝ }
+    requires { ⌜ lowest ≡ lowestOf (measure (pointsOf (x .vertices) (now points))) (aboutGroup (tets (x .room) (now elements)) (members (now work) group size)) ⌝ }
+    ensures { λ r. ⌜ bestIn r ≡ bestFor o (take count fields) (regionsOf listed (now (regions .entry))) (meshFor x (now (masks .entry)) (now (elements .entry)))
+        (stateOf (x .vertices) (now (parameters .entry)) (now (points .entry)) 0) (wordAt (now (work .entry)) group) (members (now (work .entry)) group size) ⌝ }
+    ensures { λ _. ⌜ SameTo (x .area) (now (work .entry)) (now (work .exit)) ⌝ }
+{
+    let v = word(work, group);
+    let mask = word(masks, v as usize);
+    let active = active_fields(mask, fields, count);
+    let m = active_count(mask, fields, count);
+    let start = start_from(o, parameters, work, x, v);
+    let s = list_about(work, x, group, size);
+    best_candidate(
+        o,
+        count,
+        fields,
+        listed,
+        regions,
+        parameters,
+        points,
+        elements,
+        work,
+        s,
+        start,
+        active,
+        m,
+        lowest,
+    )
+}
+
+// Moves the group of `size` rows from `first` on where its lowest score is below 0.15 and a candidate is better, and gives how many
+// vertices have moved, `moved` so far.
+fn smooth_group(
+    o: Options,
+    count: usize,
+    fields: [Field; 8],
+    listed: bool,
+    regions: &[u32],
+    parameters: &mut [f64],
+    points: &mut [f64],
+    masks: &[u32],
+    elements: &[u32],
+    work: &mut [u32],
+    x: Index,
+    first: usize,
+    size: usize,
+    moved: usize,
+) -> usize
+    requires { ⌜ Ready x (now work) × Rows x (now work) (7 * first + 6) size × Slots x (now elements) (now work) ⌝ }
+    requires { ⌜ (moved ≤ first) × (3 * x .vertices ≤ length (now parameters)) × (3 * x .vertices ≤ length (now points)) ⌝ }
+    ensures { λ r. ⌜ Turned (x .vertices) (smoothGroup o (take count fields) (regionsOf listed (now (regions .entry))) (meshFor x (now (masks .entry)) (now (elements .entry)))
+        (stateOf (x .vertices) (now (parameters .entry)) (now (points .entry)) moved) (members (now (work .entry)) (7 * first + 6) size))
+        (now (parameters .entry)) (now (points .entry)) (now (parameters .exit)) (now (points .exit)) r ⌝ }
+    ensures { λ r. ⌜ SameTo (x .area) (now (work .entry)) (now (work .exit)) × (r ≤ moved + size) ⌝ }
+{
+    let group = 7 * first + 6;
+    let s = list_about(work, x, group, size);
+    let lowest = lowest_about(points, elements, work, s);
+    if !(lowest < 0.15) {
+        return moved;
+    }
+    let best = best_for(
+        o,
+        count,
+        fields,
+        listed,
+        regions,
+        parameters,
+        points,
+        masks,
+        elements,
+        work,
+        x,
+        group,
+        size,
+        lowest,
+    );
+    if !best.found {
+        return moved;
+    }
+    let p = best.point;
+    move_group(o, parameters, points, work, s, p);
+    moved + size
+}
+
+// Smooths every group in rank order, and gives how many vertices have moved.
+fn smooth_groups(
+    o: Options,
+    count: usize,
+    fields: [Field; 8],
+    listed: bool,
+    regions: &[u32],
+    parameters: &mut [f64],
+    points: &mut [f64],
+    masks: &[u32],
+    elements: &[u32],
+    work: &mut [u32],
+    x: Index,
+) -> usize
+    requires { ⌜ Ready x (now work) × Slots x (now elements) (now work) × Grouped o x (now parameters) (now work) ⌝ }
+    requires { ⌜ (3 * x .vertices ≤ length (now parameters)) × (3 * x .vertices ≤ length (now points)) ⌝ }
+    ensures { λ r. ⌜ Turned (x .vertices) (smoothGroups o (take count fields) (regionsOf listed (now (regions .entry))) (meshFor x (now (masks .entry)) (now (elements .entry)))
+        (stateOf (x .vertices) (now (parameters .entry)) (now (points .entry)) 0) (groups o (pointsOf (x .vertices) (now (parameters .entry)))))
+        (now (parameters .entry)) (now (points .entry)) (now (parameters .exit)) (now (points .exit)) r ⌝ }
+{
+    let nv = x.vertices as usize;
+    let mut first = 0;
+    let mut moved = 0;
+    while first < nv {
+        let size = run_length(work, first, nv, 7, 6);
+        moved = smooth_group(
+            o,
+            count,
+            fields,
+            listed,
+            regions,
+            parameters,
+            points,
+            masks,
+            elements,
+            work,
+            x,
+            first,
+            size,
+            moved,
+        );
+        first += size;
+    }
+    moved
+}
+
+// Lays out the work: the groups, the slots and their index.
+fn prepare(
+    o: Options,
+    sizes: Sizes,
+    parameters: &[f64],
+    elements: &[u32],
+    work: &mut [u32],
+) -> Index
+    requires { ⌜ (sizes .vertices ≤ 4096) × (sizes .elements ≤ 16384) × (256 * sizes .elements + 32 * sizes .vertices + 1024 ≤ length (now work)) ⌝ }
+    requires { ⌜ (4 * sizes .elements ≤ length (now elements)) × (every (wellNumbered (sizes .vertices)) (tets (sizes .elements) (now elements)) ≡ true) ⌝ }
+    ensures { λ r. ⌜ (r .vertices ≡ sizes .vertices) × (r .room ≡ sizes .elements) × Ready r (now (work .exit)) ⌝ }
+    ensures { λ r. ⌜ Slots r (now (elements .entry)) (now (work .exit)) × Grouped o r (now (parameters .entry)) (now (work .exit)) ⌝ }
+{
+    let n = sizes.elements as u32;
+    let x = layout(sizes.vertices as u32, n);
+    group_in(parameters, sizes.vertices, o, work);
+    copy_into(elements, 0, work, x.slots, 4 * sizes.elements);
+    build(work, x, n);
+    x
+}
+
+// Moves vertices of badly shaped elements; the count is that of the vertices moved. Both work slices are all zeros afterwards.
+pub fn smooth(
+    sizes: Sizes,
+    o: Options,
+    count: u32,
+    fields: [Field; 8],
+    listed: bool,
+    regions: &[u32],
+    parameters: &mut [f64],
+    points: &mut [f64],
+    masks: &[u32],
+    elements: &[u32],
+    surface: &[u32],
+    work: &mut [u32],
+    floats: &mut [f64],
+) -> Answer
+    ensures { λ r. ⌜ _≡_ {A = Answer × State} (r, record { parameters = now (parameters .exit); points = now (points .exit); masks = now (masks .entry); elements = now (elements .entry); surface = now (surface .entry); sizes = sizes })
+        (step (record { pass = Pass.smooth; options = o; fields = fields; count = count; regions = regionsOf listed (now (regions .entry)); words = length (now (work .entry)); floats = length (now (floats .entry)) })
+        (record { parameters = now (parameters .entry); points = now (points .entry); masks = now (masks .entry); elements = now (elements .entry); surface = now (surface .entry); sizes = sizes })) ⌝ }
+    ensures { λ _. ⌜ now (work .exit) ≡ zeroWords (length (now (work .entry))) ⌝ }
+    ensures { λ _. ⌜ now (floats .exit) ≡ zeroFloats (length (now (floats .entry))) ⌝ }
+{
+    clear_floats(floats);
+    let number = intake(
+        sizes,
+        o,
+        count,
+        fields,
+        parameters,
+        points,
+        masks,
+        elements,
+        surface,
+        work,
+        floats,
+    );
+    if number != 0 {
+        return Answer::Refused(number);
+    }
+    let x = prepare(o, sizes, parameters, elements, work);
+    let moved = smooth_groups(
+        o,
+        count as usize,
+        fields,
+        listed,
+        regions,
+        parameters,
+        points,
+        masks,
+        elements,
+        work,
+        x,
+    );
+    clear(work);
+    Answer::Done {
+        count: moved,
+        sizes: sizes,
+    }
+}

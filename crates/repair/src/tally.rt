@@ -1,0 +1,168 @@
+// Elements measured one after the other: the lowest score, and how many are bad.
+use geometry::float::smaller;
+use geometry::point::Point;
+use geometry::point::determinant;
+use geometry::score::is_bad;
+use geometry::score::score;
+use mesh::element::Tet;
+use mesh::vertex::point_at;
+use mesh::words::word;
+ghost use mathlib.Core.Path.{_≡_};
+ghost use Prim.Native.Nat.{_+_, _*_, _≤_};
+ghost use lib.ListN.{length, drop};
+ghost use Rattle.mesh.specs.Words.{wordAt, pointAt, pointsOf};
+ghost use Rattle.mesh.specs.Tests.{nodup};
+ghost use Rattle.mesh.specs.Element.{tet, tets, verticesOf};
+ghost use Rattle.repair.specs.Mesh.{measure, scoreOf};
+ghost use Rattle.repair.specs.Tally.{counted, refusedOf, judged, started, tallied};
+
+// The lowest score so far, how many elements are bad, and whether all were allowed.
+pub struct Tally {
+    pub lowest: f64,
+    pub bad: usize,
+    pub ok: bool,
+}
+
+// No elements yet.
+pub(crate) fn start() -> Tally
+    ensures { λ r. ⌜ r ≡ started ⌝ }
+{
+    Tally {
+        lowest: 1.0,
+        bad: 0,
+        ok: true,
+    }
+}
+
+// One more score.
+fn counted(r: Tally, s: f64) -> Tally
+    requires { ⌜ r .bad ≤ 16384 ⌝ }
+    ensures { λ q. ⌜ q ≡ counted r s ⌝ }
+{
+    let low = smaller(r.lowest, s);
+    if is_bad(s) {
+        return Tally {
+            lowest: low,
+            bad: r.bad + 1,
+            ok: r.ok,
+        };
+    }
+    Tally {
+        lowest: low,
+        bad: r.bad,
+        ok: r.ok,
+    }
+}
+
+// An element that is not allowed.
+fn refused(r: Tally) -> Tally
+    ensures { λ q. ⌜ q ≡ refusedOf r ⌝ }
+{
+    Tally {
+        lowest: r.lowest,
+        bad: r.bad,
+        ok: false,
+    }
+}
+
+// The point of the vertex v of nv, 0 0 0 past the last.
+fn vertex_point(points: &[f64], nv: usize, v: u32) -> Point
+    ensures { λ r. ⌜ r ≡ pointAt (pointsOf nv (now (points .entry))) v ⌝ }
+{
+    let i = v as usize;
+    if i < nv {
+        return point_at(points, i);
+    }
+    Point {
+        x: 0.0,
+        y: 0.0,
+        z: 0.0,
+    }
+}
+
+// The element whose four words begin at p.
+pub(crate) fn element_from(work: &[u32], p: usize) -> Tet
+    requires { ⌜ p + 4 ≤ length (now work) ⌝ }
+    ensures { λ r. ⌜ r ≡ tet (wordAt (now (work .entry)) p) (wordAt (now (work .entry)) (p + 1)) (wordAt (now (work .entry)) (p + 2)) (wordAt (now (work .entry)) (p + 3)) ⌝ }
+{
+    Tet {
+        a: word(work, p),
+        b: word(work, p + 1),
+        c: word(work, p + 2),
+        d: word(work, p + 3),
+    }
+}
+
+// Whether the four vertices of an element are different.
+fn four_different(t: Tet) -> bool
+    ensures { λ r. ⌜ r ≡ nodup (verticesOf t) ⌝ }
+{
+    if t.a == t.b {
+        return false;
+    }
+    if t.a == t.c {
+        return false;
+    }
+    if t.a == t.d {
+        return false;
+    }
+    if t.b == t.c {
+        return false;
+    }
+    if t.b == t.d {
+        return false;
+    }
+    t.c != t.d
+}
+
+// The score of an element.
+fn score_of(points: &[f64], nv: usize, t: Tet) -> f64
+    ensures { λ r. ⌜ r ≡ scoreOf (pointsOf nv (now (points .entry))) t ⌝ }
+{
+    let a = vertex_point(points, nv, t.a);
+    let b = vertex_point(points, nv, t.b);
+    let c = vertex_point(points, nv, t.c);
+    let d = vertex_point(points, nv, t.d);
+    score(a, b, c, d)
+}
+
+// The element t, passed over where two of its vertices are the same; allowed with determinant above 0 and a score no more than 1e-12
+// below the limit.
+pub(crate) fn judge(r: Tally, points: &[f64], nv: usize, limit: f64, t: Tet) -> Tally
+    requires { ⌜ r .bad ≤ 16384 ⌝ }
+    ensures { λ q. ⌜ q ≡ judged (measure (pointsOf nv (now (points .entry)))) limit r t ⌝ }
+{
+    if !four_different(t) {
+        return r;
+    }
+    let a = vertex_point(points, nv, t.a);
+    let b = vertex_point(points, nv, t.b);
+    let c = vertex_point(points, nv, t.c);
+    let d = vertex_point(points, nv, t.d);
+    if !(0.0 < determinant(a, b, c, d)) {
+        return refused(r);
+    }
+    let s = score(a, b, c, d);
+    if s + 1e-12 < limit {
+        return refused(r);
+    }
+    counted(r, s)
+}
+
+// The elements that stand at p, n of them, four words each.
+pub(crate) fn tally_elements(work: &[u32], p: usize, n: usize, points: &[f64], nv: usize) -> Tally
+    requires { ⌜ (n ≤ 16384) × (p + 4 * n ≤ length (now work)) ⌝ }
+    ensures { λ r. ⌜ r ≡ tallied (measure (pointsOf nv (now (points .entry)))) started (tets n (drop p (now (work .entry)))) ⌝ }
+{
+    let mut r = start();
+    let mut q = p;
+    let mut left = n;
+    while 0 < left {
+        let t = element_from(work, q);
+        let s = score_of(points, nv, t);
+        r = counted(r, s);
+        q += 4;
+        left -= 1;
+    }
+    r
+}

@@ -1,0 +1,150 @@
+// The elements about a group, measured from the points as they are and as they would be with the group moved.
+use crate::candidate::kept_on;
+use crate::members::is_member;
+use geometry::bounds::Options;
+use geometry::float::smaller;
+use geometry::point::Point;
+use geometry::point::determinant;
+use geometry::score::score;
+use mesh::element::Tet;
+use mesh::list::vertex_point;
+use mesh::vertex::tet_at;
+use mesh::words::word;
+ghost use mathlib.Core.Path.{_≡_};
+ghost use mathlib.Core.Bool.{true};
+ghost use Rattle.mesh.specs.Words.{pointAt, pointsOf};
+ghost use Rattle.mesh.specs.Tests.{every};
+ghost use Rattle.repair.specs.Mesh.{measure, scoreOf, lowestOf};
+ghost use Rattle.repair.specs.Site.{InRange, about, trialPoints, measuredOf};
+
+// Where the group and the elements about it stand in the work: the rows of the group, its first vertex at `group`, and at `area` the
+// numbers of `about` elements.
+pub struct Site {
+    pub vertices: usize,
+    pub group: usize,
+    pub count: usize,
+    pub area: usize,
+    pub about: usize,
+}
+
+// Whether the determinant of an element is above 0, and its score.
+pub struct Measured {
+    pub above: bool,
+    pub score: f64,
+}
+
+// Whether every determinant is above 0, and then the lowest score.
+pub struct Trial {
+    pub above: bool,
+    pub lowest: f64,
+}
+
+// The score of an element from the points of nv vertices.
+fn score_of(points: &[f64], nv: usize, t: Tet) -> f64
+    ensures { λ r. ⌜ r ≡ scoreOf (pointsOf nv (now (points .entry))) t ⌝ }
+{
+    let a = vertex_point(points, nv, t.a);
+    let b = vertex_point(points, nv, t.b);
+    let c = vertex_point(points, nv, t.c);
+    let d = vertex_point(points, nv, t.d);
+    score(a, b, c, d)
+}
+
+// The lowest score about the group as it is.
+pub(crate) fn lowest_about(points: &[f64], elements: &[u32], work: &[u32], s: Site) -> f64
+    requires { ⌜ InRange s ⌝ }
+    ensures { λ r. ⌜ r ≡ lowestOf (measure (pointsOf (s .vertices) (now (points .entry)))) (about (now (elements .entry)) (now (work .entry)) (s .area) (s .about)) ⌝ }
+{
+    let mut low = 1.0;
+    let mut i = s.area;
+    let mut left = s.about;
+    while 0 < left {
+        let t = tet_at(elements, word(work, i) as usize);
+        low = smaller(low, score_of(points, s.vertices, t));
+        i += 1;
+        left -= 1;
+    }
+    low
+}
+
+// The point of the vertex v with the group moved to p.
+fn trial_point(
+    o: Options,
+    parameters: &[f64],
+    points: &[f64],
+    work: &[u32],
+    s: Site,
+    p: Point,
+    v: u32,
+) -> Point
+    requires { ⌜ InRange s ⌝ }
+    ensures { λ r. ⌜ r ≡ pointAt (trialPoints o (now (parameters .entry)) (now (points .entry)) (now (work .entry)) s p) v ⌝ }
+{
+    let q = vertex_point(points, s.vertices, v);
+    if s.vertices <= v as usize {
+        return q;
+    }
+    if !is_member(work, s.group, s.count, v) {
+        return q;
+    }
+    kept_on(o, vertex_point(parameters, s.vertices, v), p)
+}
+
+// An element measured with the group moved to p.
+fn measure_element(
+    o: Options,
+    parameters: &[f64],
+    points: &[f64],
+    work: &[u32],
+    s: Site,
+    p: Point,
+    t: Tet,
+) -> Measured
+    requires { ⌜ InRange s ⌝ }
+    ensures { λ r. ⌜ r ≡ measuredOf (trialPoints o (now (parameters .entry)) (now (points .entry)) (now (work .entry)) s p) t ⌝ }
+{
+    let a = trial_point(o, parameters, points, work, s, p, t.a);
+    let b = trial_point(o, parameters, points, work, s, p, t.b);
+    let c = trial_point(o, parameters, points, work, s, p, t.c);
+    let d = trial_point(o, parameters, points, work, s, p, t.d);
+    Measured {
+        above: 0.0 < determinant(a, b, c, d),
+        score: score(a, b, c, d),
+    }
+}
+
+// The elements about the group with it moved to p.
+pub(crate) fn try_point(
+    o: Options,
+    parameters: &[f64],
+    points: &[f64],
+    elements: &[u32],
+    work: &[u32],
+    s: Site,
+    p: Point,
+) -> Trial
+    requires { ⌜ InRange s ⌝ }
+    ensures { λ r. ⌜ r .above ≡ every (measure (trialPoints o (now (parameters .entry)) (now (points .entry)) (now (work .entry)) s p) .above) (about (now (elements .entry)) (now (work .entry)) (s .area) (s .about)) ⌝ }
+    ensures { λ r. ⌜ (r .above ≡ true → r .lowest ≡ lowestOf (measure (trialPoints o (now (parameters .entry)) (now (points .entry)) (now (work .entry)) s p)) (about (now (elements .entry)) (now (work .entry)) (s .area) (s .about))) ⌝ }
+{
+    let mut low = 1.0;
+    let mut i = s.area;
+    let mut left = s.about;
+    while 0 < left {
+        let t = tet_at(elements, word(work, i) as usize);
+        let m = measure_element(o, parameters, points, work, s, p, t);
+        if !m.above {
+            return Trial {
+                above: false,
+                lowest: low,
+            };
+        }
+        low = smaller(low, m.score);
+        i += 1;
+        left -= 1;
+    }
+    Trial {
+        above: true,
+        lowest: low,
+    }
+}
