@@ -5,7 +5,7 @@ use geometry::point::determinant;
 use geometry::score::is_bad;
 use geometry::score::score;
 use mesh::element::Tet;
-use mesh::vertex::point_at;
+use mesh::list::vertex_point;
 use mesh::words::word;
 ghost use mathlib.Core.Path.{_≡_};
 ghost use Prim.Native.Nat.{_+_, _*_, _≤_};
@@ -62,21 +62,6 @@ fn refused(r: Tally) -> Tally
         lowest: r.lowest,
         bad: r.bad,
         ok: false,
-    }
-}
-
-// The point of the vertex v of nv, 0 0 0 past the last.
-fn vertex_point(points: &[f64], nv: usize, v: u32) -> Point
-    ensures { λ r. ⌜ r ≡ pointAt (pointsOf nv (now (points .entry))) v ⌝ }
-{
-    let i = v as usize;
-    if i < nv {
-        return point_at(points, i);
-    }
-    Point {
-        x: 0.0,
-        y: 0.0,
-        z: 0.0,
     }
 }
 

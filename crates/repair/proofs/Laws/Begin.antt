@@ -178,10 +178,10 @@ module _ (o : Options) (m : Mesh) (x : Index) (n : ℕ) (ps : List Point) (els w
       ap (λ u. wordAt u (x .slots + j)) w₂-is ∙ written-at w₁ (x .slots) front fits₂ j (let a = front-long in omega arith) ∙ getD-take (4 * n) els j 0 h
 
   long₃ : length w₃ ≡ length w₀
-  long₃ = ap length e₃ ∙ length-built x n w₂ (room-laid x n (length w₂) room₂) (let a = room .room in omega arith) ∙ long₂
+  long₃ = ap length e₃ ∙ length-built x n w₂ (room-laid room₂) (let a = room .room in omega arith) ∙ long₂
 
   word₃ : (j : ℕ) → j < x .nexts → wordAt w₃ j ≡ wordAt w₂ j
-  word₃ j h = ap (λ u. wordAt u j) e₃ ∙ built-outside x n w₂ (room-laid x n (length w₂) room₂) (let a = room .room in omega arith) j (λ g. absurd (omega arith))
+  word₃ j h = ap (λ u. wordAt u j) e₃ ∙ built-outside x n w₂ (room-laid room₂) (let a = room .room in omega arith) j (λ g. absurd (omega arith))
 
   groups₃ : take (7 * x .vertices) w₃ ≡ flat (sort leRow (groupRows o ps))
   groups₃ =
@@ -207,5 +207,5 @@ module _ (o : Options) (m : Mesh) (x : Index) (n : ℕ) (ps : List Point) (els w
         ∙ ap (λ u. wordAt u (flagsAt x + v)) e₁ ∙ grouped-behind o ps part (let a = room .few in omega arith) part-long (flagsAt x + v) (omega arith));
     elements = sym (none-gone (x .vertices) (tets n els) (room .few) good) ∙ ap (keep (λ t. not (gone t))) (sym slots₃);
     proper = ap (every (slotOk (x .vertices))) slots₃ ∙ all-ok (x .vertices) (tets n els) good;
-    index = subst (λ u. Complete x u (4 * n)) (sym e₃) (built-complete x n w₂ (room-laid x n (length w₂) room₂) (let a = room .room in omega arith));
+    index = subst (λ u. Complete x u (4 * n)) (sym e₃) (built-complete x n w₂ (room-laid room₂) (let a = room .room in omega arith));
   }

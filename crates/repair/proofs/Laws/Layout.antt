@@ -19,8 +19,8 @@ use Rattle.repair.specs.Improve.{State}
 use Rattle.repair.specs.Layout.{Room, Stands, Same, flagsAt, pairsAt, edgesAt, slotsIn, liveIn, slotOk}
 
 -- the areas of the index lie one behind the other
-pub room-laid : (x : Index) (n m : ℕ) → Room x n m → Laid x m
-room-laid x n m r = record {
+pub room-laid : {x : Index} {n m : ℕ} → Room x n m → Laid x m
+room-laid r = record {
   few = let a = r .room in let b = r .elements in omega arith;
   nexts = let a = r .room in let b = r .nexts in omega arith;
   heads = let a = r .room in let b = r .heads in omega arith;
@@ -77,7 +77,7 @@ module _ (o : Options) (m : Mesh) (x : Index) (n : ℕ) (w : List ℕ) (s : Stat
         elements = rw same (z .elements);
         proper = rw same (z .proper);
         index =
-            let l : Laid (area-at x (edgesAt x)) (length t) = (let k = room-laid x n (length t) r₂ in record { few = k .few; nexts = k .nexts; heads = k .heads; lengths = k .lengths; area = (let e : edgesAt x ≤ edgesAt x = omega arith in e); end = (let e = k .end in let f = d in omega arith) }) in
+            let l : Laid (area-at x (edgesAt x)) (length t) = (let k = room-laid r₂ in record { few = k .few; nexts = k .nexts; heads = k .heads; lengths = k .lengths; area = (let e : edgesAt x ≤ edgesAt x = omega arith in e); end = (let e = k .end in let f = d in omega arith) }) in
             complete-from x (edgesAt x) t (4 * n)
             (complete-kept (area-at x (edgesAt x)) w t l (λ j p q. behind j (omega arith) q) (4 * n) (λ p v g f e. sym (behind (x .slots + p) (omega arith) (omega arith)) ∙ e) (complete-at x (edgesAt x) w (4 * n) (z .index)));
       }

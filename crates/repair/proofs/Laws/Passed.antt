@@ -73,10 +73,10 @@ module _ (o : Options) (s : State) (x : Index) (many : x .vertices ≡ s .sizes 
     copied : Copied w w′ (x .area) (last .elements)
     copied =
         subst (λ u. Copied w u (x .area) (last .elements)) (sym e)
-        (subst (Copied w (about.liveIn x n w) (x .area)) live-are (live-copied x w n (room-laid x n (length w) r) (let a = r .room in omega arith) fit))
+        (subst (Copied w (about.liveIn x n w) (x .area)) live-are (live-copied x w n (room-laid r) (let a = r .room in omega arith) fit))
 
     pub count-is : k ≡ length (last .elements)
-    count-is = ek ∙ live-count x w n (room-laid x n (length w) r) (let a = r .room in omega arith) fit ∙ ap length live-are
+    count-is = ek ∙ live-count x w n (room-laid r) (let a = r .room in omega arith) fit ∙ ap length live-are
 
     -- the area holds them
     pub area-elements : tets k (drop (x .area) w′) ≡ last .elements

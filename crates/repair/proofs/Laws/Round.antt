@@ -24,6 +24,7 @@ use Rattle.repair.specs.Replace.{Kept, Replaces}
 use Rattle.repair.specs.Round.{below, wayOf, MayPair}
 use Rattle.mesh.proofs.Laws.Complex.Sets.{clash, and-fst, and-snd, or-right}
 use Rattle.repair.proofs.Laws.Layout.{stands-kept}
+use Rattle.repair.proofs.Laws.Replace.Pairs.{length-pairs}
 use borrow.Author.Tests.{ltb-true, ltb-false, eq-eqb}
 
 -- the first of two same lists is the same
@@ -123,11 +124,6 @@ pub pairs-none : (k : ℕ) (s : List ℕ) → drop k (pairsOf k s) ≡ []
 unfolding pairsOf
 pairs-none zero s = refl
 pairs-none (suc k) s = pairs-none k (drop 2 s)
-
-pub length-pairs : (k : ℕ) (s : List ℕ) → length (pairsOf k s) ≡ k
-unfolding pairsOf
-length-pairs zero s = refl
-length-pairs (suc k) s = ap suc (length-pairs k (drop 2 s))
 
 -- the same pairs where their words are the same
 pub pairs-same : (k : ℕ) (s t : List ℕ) → ((j : ℕ) → j < 2 * k → wordAt t j ≡ wordAt s j) → pairsOf k t ≡ pairsOf k s

@@ -57,7 +57,7 @@ module _ (x : Index) (n : ℕ) (w : List ℕ) (r : Room x n (length w)) (k : ℕ
   many = let q = r .room in omega arith
 
   k-is : k ≡ length live
-  k-is = let low = area-low x n (length w) r .1 in ek ∙ live-count x w n (room-laid x n (length w) r) many (omega arith)
+  k-is = let low = area-low x n (length w) r .1 in ek ∙ live-count x w n (room-laid r) many (omega arith)
 
   few : k ≤ n
   few = omega (arith, k-is, keep-few (λ t. not (gone t)) (slotsIn x n w), length-tets n (drop (x .slots) w))
@@ -65,7 +65,7 @@ module _ (x : Index) (n : ℕ) (w : List ℕ) (r : Room x n (length w)) (k : ℕ
   copied : Copied w w₁ (x .area) live
   copied =
       let low = area-low x n (length w) r .1 in
-      subst (λ (y : List ℕ). Copied w y (x .area) live) (sym e₁) (live-copied x w n (room-laid x n (length w) r) many (omega arith))
+      subst (λ (y : List ℕ). Copied w y (x .area) live) (sym e₁) (live-copied x w n (room-laid r) many (omega arith))
 
   -- room for the rows
   pub list-room : (x .area ≤ 1048576) × (k ≤ 16384) × (x .area + 52 * k ≤ length w₁)

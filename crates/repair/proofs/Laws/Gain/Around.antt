@@ -40,6 +40,7 @@ use Rattle.repair.specs.Mesh.{Mesh, measure, any, has}
 use Rattle.repair.specs.Improve.{State, about, collapsed, gains}
 use Rattle.repair.specs.Layout.{Room, Stands, Pairs, Same, pairsAt, pairsOf, pairsIn, slotsIn, liveIn, slotOk}
 use Rattle.repair.proofs.Laws.Layout.{room-laid}
+use Rattle.repair.proofs.Laws.Replace.Pairs.{length-pairs, pairs-few}
 
 -- ---- the vertices of pairs
 
@@ -55,11 +56,6 @@ members-ends (suc k) p w =
     let e : 2 * suc k ≡ suc (suc (2 * k)) = omega arith in
     let f : p + 1 + 1 ≡ p + 2 = omega arith in
     rw (e, f, members-ends k (p + 2) w, getD-drop p w 0 0, add-zero p, getD-drop p w 1 0, drop-drop 2 p w) refl
-
-pub length-pairs : (k : ℕ) (s : List ℕ) → length (pairsOf k s) ≡ k
-unfolding pairsOf
-length-pairs zero s = refl
-length-pairs (suc k) s = ap suc (length-pairs k (drop 2 s))
 
 -- pairs are the same where their words are
 pairs-same : (k : ℕ) (s t : List ℕ) → ((j : ℕ) → j < 2 * k → wordAt t j ≡ wordAt s j) → pairsOf k t ≡ pairsOf k s
@@ -116,12 +112,6 @@ module _ (nv : ℕ) where
         | inl q ↦ subst (λ (y : ℕ). y < nv) (sym q) (h e (here e es) .0)
         | inr n ↦ firsts-below es (rest e es h) v n
       ]
-
-  -- no more pairs than vertices
-  pub pairs-few : (k : ℕ) (s : List ℕ) → Pairs nv (pairsOf k s) → k ≤ nv
-  pairs-few k s p =
-      let h = few-below nv (map (λ e. e .a) (pairsOf k s)) (p .firsts) (firsts-below (pairsOf k s) (p .below)) in
-      omega (arith, length-map (pairsOf k s) (λ e. e .a), length-pairs k s)
 
   -- ---- a slot with a vertex of a pair is live
 
@@ -191,7 +181,7 @@ module _ (x : Index) (n k : ℕ) (w : List ℕ) (r : Room x n (length w)) (p : P
   pub around : (c : ℕ) (w₁ w₂ : List ℕ) → c ≡ length (aboutList x w (pairsAt x) (2 * k) 1) → w₁ ≡ aboutIn x w (pairsAt x) (2 * k) 1 → w₂ ≡ elementsIn x c w₁
       → Around x n k w w₂ c
   around c w₁ w₂ ec e₁ e₂ =
-      let l = room-laid x n (length w) r in
+      let l = room-laid r in
       let hn : n ≤ x .room = let a = r .room in omega arith in
       let ts = tets n (drop (x .slots) w) in
       let us = starAll (members (2 * k) (pairsAt x) 1 w) ts in

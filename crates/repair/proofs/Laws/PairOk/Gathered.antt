@@ -40,7 +40,7 @@ module _ (x : Index) (n a b : ℕ) (w : List ℕ) (r : Room x n (length w)) (ha 
   -- `star`, then `elements_at`
   pub gathered : Complete x w (4 * n) → (k : ℕ) (w₁ w₂ : List ℕ) → k ≡ length (starList x w a b) → w₁ ≡ starred x w a b → w₂ ≡ elementsIn x k w₁ → Gathered x n a b w w₂ k
   gathered index k w₁ w₂ ek e₁ e₂ =
-      let l = room-laid x n (length w) r in
+      let l = room-laid r in
       let hn : n ≤ x .room = let q = r .room in omega arith in
       let low = area-low x n (length w) r .1 in
       let ts = slotsIn x n w in

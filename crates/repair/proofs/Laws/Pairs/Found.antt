@@ -27,6 +27,7 @@ use Rattle.repair.specs.Layout.{flagsAt, pairsAt, Room, liveIn, slotOk, 
 use Rattle.repair.specs.Pairs.{Ranked, membersOf, activeIn, activeOf, IsGroup, only, Paired}
 use Rattle.repair.proofs.Laws.Pairs.Partners.{partners-only}
 use Rattle.repair.proofs.Laws.Pairs.Pairing.{keep-below}
+use Rattle.repair.proofs.Laws.Layout.{room-laid}
 
 module _ {o : Options} {m : Mesh} {x : Index} {n : ℕ} {w : List ℕ} {s : State} (S : Stands o m x n w s) {ps : List Point} (e : m .parameters ≡ ps) where
   -- the rows of the groups, and room for the pairs
@@ -60,17 +61,6 @@ paired-mesh {o} {m} {x} {ps} e vs vs′ ws ws′ f g p =
     }
 
 -- ---- the pairs' area does not count
-
--- the layout has room for the index
-pub room-laid : {x : Index} {n k : ℕ} → Room x n k → Laid x k
-room-laid r = record {
-  few = omega (arith, r .elements, r .room);
-  nexts = omega (arith, r .nexts, r .room);
-  heads = omega (arith, r .heads, r .room);
-  lengths = omega (arith, r .lengths);
-  area = omega (arith, r .area);
-  end = omega (arith, r .slots, r .nexts, r .heads, r .lengths, r .area, r .long);
-}
 
 -- a slice that differs there alone stands for the same state
 pub stands-same : {o : Options} {m : Mesh} {x : Index} {n : ℕ} {w w′ : List ℕ} {s : State} → Same w w′ (pairsAt x) (x .slots) → Stands o m x n w s → Stands o m x n w′ s

@@ -25,7 +25,8 @@ use Rattle.repair.specs.Layout.{Room, edgesAt, slotsIn}
 use Rattle.repair.specs.Replace.{slotAfter, slotAt}
 use Rattle.repair.proofs.Laws.Replace.Writes.{slot-corners}
 use Rattle.repair.proofs.Laws.Replace.Listed.{NoSlot}
-use Rattle.repair.proofs.Laws.Replace.Star.{After, room-laid, tets-mapped}
+use Rattle.repair.proofs.Laws.Replace.Star.{After, tets-mapped}
+use Rattle.repair.proofs.Laws.Layout.{room-laid}
 
 -- ---- corners
 

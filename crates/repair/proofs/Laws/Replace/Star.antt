@@ -25,11 +25,7 @@ use Rattle.repair.specs.Replace.{slotAfter, slotAt, slotsReplaced}
 use Rattle.repair.proofs.Laws.Replace.Slots.{after-none}
 use Rattle.repair.proofs.Laws.Replace.Writes.{slot-same}
 use Rattle.repair.proofs.Laws.Replace.Listed.{NoSlot, Met, all-met}
-
--- the layout that the index asks for, and room for a star
-pub room-laid : {x : Index} {n m : ℕ} → Room x n m → Laid x m
-room-laid r =
-    record { few = omega arith; nexts = omega arith; heads = omega arith; lengths = omega arith; area = omega arith; end = omega arith }
+use Rattle.repair.proofs.Laws.Layout.{room-laid}
 
 pub room-star : {x : Index} {n m : ℕ} → Room x n m → x .area + (4 * n + 4 * n) ≤ m
 room-star r = omega arith

@@ -26,7 +26,8 @@ use Rattle.repair.specs.Improve.{State, image, collapsed}
 use Rattle.repair.specs.Layout.{Room, Stands, flagsAt, pairsAt, edgesAt, slotsIn, liveIn, slotOk}
 use Rattle.repair.specs.Replace.{Kept, slotsReplaced}
 use Rattle.repair.proofs.Laws.Replace.Slots.{all-ok, live-after, live-same}
-use Rattle.repair.proofs.Laws.Replace.Star.{After, room-laid, star-after}
+use Rattle.repair.proofs.Laws.Replace.Star.{After, star-after}
+use Rattle.repair.proofs.Laws.Layout.{room-laid}
 use Rattle.repair.proofs.Laws.Replace.Index.{joined-complete, joined-long, joined-stays, joined-slots}
 
 -- ---- a flag

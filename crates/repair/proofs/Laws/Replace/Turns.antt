@@ -19,7 +19,7 @@ use Rattle.repair.specs.Improve.{image, collapsed}
 use Rattle.repair.specs.Layout.{Room, Pairs, Stands, liveIn, slotsIn, pairsAt, pairsIn}
 use Rattle.repair.specs.Replace.{slotAfter, slotAt, putSlot, slotReplaced, slotsReplaced, Kept, Replaces, Goes, AllGo}
 use Rattle.repair.proofs.Laws.Replace.Slots.{live-same}
-use Rattle.repair.proofs.Laws.Replace.Star.{room-laid}
+use Rattle.repair.proofs.Laws.Layout.{room-laid}
 use Rattle.repair.proofs.Laws.Replace.Pairs.{collapsed-more, pair-here, pairs-drop, pairs-at, length-pairs}
 
 -- ---- one slot

@@ -30,7 +30,7 @@ use Rattle.repair.specs.Smooth.{aboutGroup}
 use Rattle.repair.specs.Layout.{slotsIn}
 use Rattle.repair.specs.Site.{members, about, Ready, Slots, Rows, Listed}
 use Rattle.repair.proofs.Laws.Site.Near.{under-mem}
-use Rattle.repair.proofs.Laws.Site.Work.{room-laid}
+use Rattle.repair.proofs.Laws.Layout.{room-laid}
 
 -- ---- the same in both crates' words
 
@@ -86,11 +86,11 @@ module _ (x : Index) (w : List ℕ) (i k : ℕ) (r : Ready x w) (g : Rows x w i 
 
   count : length (aboutList x w i k 7) ≡ length (starAll vs ts)
   unfolding vs
-  count = about-count x w (x .room) (room-laid x (length w) (r .room)) (r .index) i k 7 stand below fit
+  count = about-count x w (x .room) (room-laid (r .room)) (r .index) i k 7 stand below fit
 
   answered : Answered w (aboutIn x w i k 7) (x .area) (starAll vs ts)
   unfolding vs
-  answered = about-answered x w (x .room) (room-laid x (length w) (r .room)) (r .index) i k 7 stand below fit
+  answered = about-answered x w (x .room) (room-laid (r .room)) (r .index) i k 7 stand below fit
 
   -- no more than there are elements
   star-few : length (starAll vs ts) ≤ x .room

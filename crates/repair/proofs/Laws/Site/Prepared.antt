@@ -28,7 +28,7 @@ use Rattle.mesh.proofs.Laws.Star.Hanging.{length-built, built-outside, built-co
 use Rattle.mesh.proofs.Laws.Star.Calls.{tets-same}
 use Rattle.repair.specs.Layout.{Room}
 use Rattle.repair.specs.Site.{Ready, Slots, Grouped}
-use Rattle.repair.proofs.Laws.Site.Work.{room-laid}
+use Rattle.repair.proofs.Laws.Layout.{room-laid}
 
 module _ (o : Options) (x : Index) (P : List Float) (els w₀ w₁ w₂ w₃ : List ℕ) (R : Room x (x .room) (length w₀)) (long : 4 * x .room ≤ length els)
     (long₁ : length w₁ ≡ length w₀) (e₁ : w₁ ≡ groupedArea o (pointsOf (x .vertices) P) w₀)
@@ -82,7 +82,7 @@ module _ (o : Options) (x : Index) (P : List Float) (els w₀ w₁ w₂ w₃ : L
 
   -- the index
   laid₂ : Laid x (length w₂)
-  laid₂ = subst (Laid x) (sym long₂) (room-laid x (length w₀) R)
+  laid₂ = subst (Laid x) (sym long₂) (room-laid R)
 
   pub long₃ : length w₃ ≡ length w₀
   long₃ = ap length e₃ ∙ length-built x (x .room) w₂ laid₂ (omega arith) ∙ long₂

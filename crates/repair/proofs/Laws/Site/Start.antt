@@ -18,7 +18,7 @@ use Rattle.repair.specs.Layout.{Room, slotsIn}
 use Rattle.repair.specs.Smooth.{neighbours, mean}
 use Rattle.repair.specs.Site.{Ready, Started}
 use Rattle.repair.proofs.Laws.Site.Near.{near-is, near-most}
-use Rattle.repair.proofs.Laws.Site.Work.{room-laid}
+use Rattle.repair.proofs.Laws.Layout.{room-laid}
 
 -- the area has room for the neighbours, and for their scratch
 near-fits : (x : Index) (m : ℕ) → Room x (x .room) m → x .area + (16 * x .room + 16 * x .room) ≤ m
@@ -37,7 +37,7 @@ module _ (o : Options) (x : Index) (P : List Float) (v : ℕ) (w w′ : List ℕ
   unfolding ts
   answered =
       subst (λ u. Answered w u (x .area) (neighboursOf v (slotsIn x (x .room) w))) (sym e)
-      (neighbours-answered x w (x .room) (room-laid x (length w) (r .room)) (omega arith) (r .index) v h (near-fits x (length w) (r .room)))
+      (neighbours-answered x w (x .room) (room-laid (r .room)) (omega arith) (r .index) v h (near-fits x (length w) (r .room)))
 
   -- how many, and those that are listed
   count-is : neighboursOf v ts ≡ neighbours (x .vertices) ts v
@@ -49,7 +49,7 @@ module _ (o : Options) (x : Index) (P : List Float) (v : ℕ) (w w′ : List ℕ
   unfolding ts
   near-few n a =
       let m : n ≡ length (neighboursOf v (slotsIn x (x .room) w)) =
-      a ∙ neighbours-count x w (x .room) (room-laid x (length w) (r .room)) (omega arith) (r .index) v h (near-fits x (length w) (r .room)) in
+      a ∙ neighbours-count x w (x .room) (room-laid (r .room)) (omega arith) (r .index) v h (near-fits x (length w) (r .room)) in
       let f = r .room .few in
       omega (arith, m, ap length count-is, near-most (x .vertices) (slotsIn x (x .room) w) v, f)
 
@@ -58,7 +58,7 @@ module _ (o : Options) (x : Index) (P : List Float) (v : ℕ) (w w′ : List ℕ
   unfolding ts
   started-is s n q a b c d f g =
       let m : n ≡ length (neighboursOf v (slotsIn x (x .room) w)) =
-      a ∙ neighbours-count x w (x .room) (room-laid x (length w) (r .room)) (omega arith) (r .index) v h (near-fits x (length w) (r .room)) in
+      a ∙ neighbours-count x w (x .room) (room-laid (r .room)) (omega arith) (r .index) v h (near-fits x (length w) (r .room)) in
       record {
         same = record { long = answered .long; before = answered .below };
         original = c ∙ b;

@@ -13,20 +13,10 @@ use Rattle.mesh.specs.Star.{Laid}
 use Rattle.mesh.proofs.Laws.Rows.{rows-same}
 use Rattle.mesh.proofs.Laws.Star.Calls.{answered-complete, answered-elements}
 use Rattle.repair.specs.Layout.{Room, slotsIn}
+use Rattle.repair.proofs.Laws.Layout.{room-laid}
 use Rattle.repair.specs.Site.{members, SameTo, Ready, Rows}
 
 -- ---- the layout
-
--- the areas lie one behind the other
-pub room-laid : (x : Index) (m : ℕ) → Room x (x .room) m → Laid x m
-room-laid x m r = record {
-  few = let a = r .elements in omega arith;
-  nexts = let a = r .nexts in omega arith;
-  heads = let a = r .heads in omega arith;
-  lengths = let a = r .lengths in omega arith;
-  area = let a = r .area in omega arith;
-  end = let a = r .area in let b = r .lengths in let c = r .heads in let d = r .nexts in let e = r .slots in let f = r .long in omega arith;
-}
 
 -- ---- what stays
 
@@ -36,13 +26,13 @@ same-trans a s t u p q = record { long = q .long ∙ p .long; before = λ j h. q
 module _ (x : Index) (w w′ : List ℕ) (r : Ready x w) (e : SameTo (x .area) w w′) where
   -- the slots
   pub slots-kept : slotsIn x (x .room) w′ ≡ slotsIn x (x .room) w
-  slots-kept = answered-elements x w (x .room) (room-laid x (length w) (r .room)) (omega arith) (r .index) w′ (e .before)
+  slots-kept = answered-elements x w (x .room) (room-laid (r .room)) (omega arith) (r .index) w′ (e .before)
 
   -- all of it
   pub ready-kept : Ready x w′
   ready-kept = record {
     room = subst (Room x (x .room)) (sym (e .long)) (r .room);
-    index = answered-complete x w (x .room) (room-laid x (length w) (r .room)) (omega arith) (r .index) w′ (e .before);
+    index = answered-complete x w (x .room) (room-laid (r .room)) (omega arith) (r .index) w′ (e .before);
     proper = ap (every (wellNumbered (x .vertices))) slots-kept ∙ r .proper;
   }
 
