@@ -3,7 +3,7 @@
 use crate::case::Case;
 use crate::coverage::{Tally, scale_of};
 use crate::make;
-use crate::mesh::{Answer, Call, Mesh};
+use crate::mesh::{Answer, Call, Mesh, Pass};
 use crate::original::DOC01;
 use crate::shell;
 
@@ -55,11 +55,22 @@ fn compare(port: Port, case: &Case, tally: &mut Tally) -> Option<String> {
     None
 }
 
-pub fn report(port: Port, count: u64, seed: u64) -> Result<(), String> {
+/// A generated case whose calls of other passes than these become calls of one of these, in turn.
+fn case(seed: u64, i: u64, passes: &[Pass]) -> Case {
+    let mut case = make::case(seed + i, scale_of(i));
+    for (k, call) in case.calls.iter_mut().enumerate() {
+        if !passes.contains(&call.pass) {
+            call.pass = passes[(i as usize + k) % passes.len()];
+        }
+    }
+    case
+}
+
+pub fn report(port: Port, count: u64, seed: u64, passes: &[Pass]) -> Result<(), String> {
     let mut tally = Tally::default();
     let mut different = 0;
     for i in 0..count {
-        let case = make::case(seed + i, scale_of(i));
+        let case = case(seed, i, passes);
         if let Some(what) = compare(port, &case, &mut tally) {
             different += 1;
             if different <= 5 {

@@ -42,20 +42,6 @@ impl Value {
 /// A side of the comparison.
 type Side = fn(&Unit) -> Value;
 
-/// The functions compared, by the names of their units.
-const COMPARED: [&str; 10] = [
-    "root",
-    "norm",
-    "determinant",
-    "edges",
-    "score",
-    "spacing",
-    "rank",
-    "cap",
-    "value",
-    "gradient",
-];
-
 /// What the port gives.
 fn port(unit: &Unit) -> Value {
     match unit {
@@ -101,11 +87,21 @@ fn judge(unit: &Unit) -> Value {
     }
 }
 
+/// The next unit that the port can be given.
+fn draw(name: &str, r: &mut Random) -> Unit {
+    loop {
+        let unit = units::unit(name, r);
+        if unit.fits_port() {
+            return unit;
+        }
+    }
+}
+
 /// Compare one function; the first differences are printed.
 fn compare_one(name: &str, [port, judge]: [Side; 2], count: u64, r: &mut Random) -> u64 {
     let mut different = 0;
     for _ in 0..count {
-        let unit = units::unit(name, r);
+        let unit = draw(name, r);
         let given = port(&unit);
         if given.same(&judge(&unit)) {
             continue;
@@ -122,7 +118,7 @@ fn compare_one(name: &str, [port, judge]: [Side; 2], count: u64, r: &mut Random)
 /// Every function that is linked, with its two sides.
 fn compared() -> Vec<(&'static str, [Side; 2])> {
     let sides: [Side; 2] = [port, judge];
-    let all = COMPARED.map(|name| (name, sides)).to_vec();
+    let all = units::FLOATS.map(|name| (name, sides)).to_vec();
     let sides: [Side; 2] = [crate::bridge_surface::port, crate::bridge_surface::judge];
     let all = [all, crate::bridge_surface::COMPARED.map(|name| (name, sides)).to_vec()].concat();
     #[cfg(feature = "bridge-mesh")]

@@ -8,45 +8,63 @@ pub const COMPARED: [&str; 2] = ["link", "project"];
 
 #[rustfmt::skip]
 unsafe extern "C" {
-    /// 1 where the edge a b passes the link test among the elements.
+    /// 1 where a's bits are among b's and the edge a b passes the link test among the elements.
     fn h_link(
         a: u32, b: u32,
         elements: *const u32, elements_len: usize,
-        strata: *const u64, strata_len: usize,
+        masks: *const u32, masks_len: usize,
+        parameters: *const f64, parameters_len: usize,
+        bounds: &[f64; 6],
         work: *mut u32, work_len: usize,
     ) -> u32;
-    /// 1 and the point, or 0; `active` has a bit for each active field.
+    /// 1 and the point, or 0; the fields are the active ones.
     fn h_project(
         bounds: &[f64; 6],
         count: u32, kinds: &[u32; 8], floats: &[f64; 32],
-        active: u32,
         origin: &[f64; 3], candidate: &[f64; 3],
         point: &mut [f64; 3],
     ) -> u32;
 }
 
+/// A point of the unit box on those of its faces that a stratum's bits 32 to 37 name.
+fn on_faces(stratum: u64) -> Point {
+    std::array::from_fn(|axis| match stratum >> (32 + 2 * axis) & 3 {
+        1 => 0.,
+        2 => 1.,
+        _ => 0.5,
+    })
+}
+
+#[rustfmt::skip]
 fn port_link(a: usize, b: usize, tets: &[[usize; 4]], strata: &[u64]) -> u32 {
     let elements = flat(tets);
+    let masks: Vec<u32> = strata.iter().map(|&m| m as u32).collect();
+    let parameters: Vec<f64> = strata.iter().flat_map(|&m| on_faces(m)).collect();
     let mut area = work(tets.len(), strata.len());
     // Each pointer is that of a live buffer of the length beside it.
     unsafe {
-        let (e, s, w) = (elements.as_ptr(), strata.as_ptr(), area.as_mut_ptr());
-        h_link(a as u32, b as u32, e, elements.len(), s, strata.len(), w, area.len())
+        h_link(
+            a as u32, b as u32,
+            elements.as_ptr(), elements.len(),
+            masks.as_ptr(), masks.len(),
+            parameters.as_ptr(), parameters.len(),
+            &[0., 1., 0., 1., 0., 1.],
+            area.as_mut_ptr(), area.len(),
+        )
     }
 }
 
 fn port_project(b: &[f64; 6], fields: &[Shape], active: &[usize], from: Point, to: Point) -> Value {
     let mut kinds = [0; 8];
     let mut floats = [0.; 32];
-    for (j, (kind, numbers)) in fields.iter().enumerate() {
-        kinds[j] = *kind;
-        floats[4 * j..4 * j + 4].copy_from_slice(numbers);
+    for (j, (kind, numbers)) in active.iter().map(|&k| fields[k]).enumerate() {
+        kinds[j] = kind;
+        floats[4 * j..4 * j + 4].copy_from_slice(&numbers);
     }
-    let bits = active.iter().fold(0, |m, j| m | 1 << j);
     let mut p = [0.; 3];
-    let count = fields.len() as u32;
+    let count = active.len() as u32;
     // Every reference is to a live array of the length declared.
-    let found = unsafe { h_project(b, count, &kinds, &floats, bits, &from, &to, &mut p) };
+    let found = unsafe { h_project(b, count, &kinds, &floats, &from, &to, &mut p) };
     if found == 0 { Value::Number(0) } else { Value::Point(p) }
 }
 
@@ -59,11 +77,12 @@ pub fn port(unit: &Unit) -> Value {
     }
 }
 
-/// What the original gives.
+/// What the original gives; `improve` tests the bits before it calls the link test.
 pub fn judge(unit: &Unit) -> Value {
     match unit {
         Unit::Link(a, b, tets, strata) => {
-            Value::Number(original::link(*a, *b, tets, strata).into())
+            let inside = strata[*a] & !strata[*b] == 0;
+            Value::Number((inside && original::link(*a, *b, tets, strata)).into())
         }
         Unit::Project(b, fields, active, from, to) => {
             match (DOC01.project)(&setting(b, [1; 3], false), fields, active, *from, *to) {

@@ -9,6 +9,8 @@ extern crate untouched;
 extern crate untouched_counted;
 
 mod agree;
+#[cfg(feature = "bridge-passes")]
+mod bench;
 #[cfg(feature = "bridge")]
 mod bridge;
 #[cfg(feature = "bridge")]
@@ -44,8 +46,11 @@ oracle coverage COUNT [SEED]        run generated cases, report how often each b
 oracle coverage FILE.txt...         the same for stored cases and units
 oracle differ COUNT [SEED [all]]    doc01 against untouched, each difference with its decision
 oracle compare COUNT [SEED]         COUNT inputs for each function of the port (feature bridge)
-oracle agree COUNT [SEED]           COUNT lists of calls on the port's passes (feature
-                                    bridge-passes; without it the original stands for the port)
+oracle agree COUNT [SEED [PASSES]]  COUNT lists of calls on the port's passes, all or those of a list
+                                    as improve,smooth (feature bridge-passes; without it the
+                                    original stands for the port)
+oracle bench [RUNS]                 times of the port's improve and smooth, of intake and of the
+                                    original (feature bridge-passes)
 oracle wholeness COUNT [SEED]       demand 3's four statements on lists of calls of the original
 oracle store FOLDER                 write the stored answers passes.txt and units.txt";
 
@@ -81,6 +86,17 @@ const PASSES: agree::Port = passes::port;
 #[cfg(not(feature = "bridge-passes"))]
 const PASSES: agree::Port = agree::mirror;
 
+#[cfg(feature = "bridge-passes")]
+fn bench(runs: u64) -> Result<(), String> {
+    bench::report(runs);
+    Ok(())
+}
+
+#[cfg(not(feature = "bridge-passes"))]
+fn bench(_: u64) -> Result<(), String> {
+    Err("bench needs the port: build with --features bridge-passes".to_string())
+}
+
 #[cfg(feature = "bridge")]
 fn compare(count: u64, seed: u64) -> Result<(), String> {
     bridge::report(count, seed)
@@ -102,8 +118,10 @@ fn command(args: &[String]) -> Result<(), String> {
         }
         Some("compare") => compare(number(rest.first(), 100_000)?, number(rest.get(1), 1)?),
         Some("agree") => {
-            agree::report(PASSES, number(rest.first(), 2000)?, number(rest.get(1), 1)?)
+            let passes = mesh::Pass::list(rest.get(2).map_or("improve,smooth,flip", |t| t))?;
+            agree::report(PASSES, number(rest.first(), 2000)?, number(rest.get(1), 1)?, &passes)
         }
+        Some("bench") => bench(number(rest.first(), 5)?),
         Some("wholeness") => {
             wholeness::report(number(rest.first(), 2000)?, number(rest.get(1), 1)?)
         }

@@ -32,6 +32,12 @@ impl Pass {
     pub fn name(self) -> &'static str {
         ["improve", "smooth", "flip"][self as usize]
     }
+
+    /// Passes by their names, separated by commas.
+    pub fn list(text: &str) -> Result<Vec<Pass>, String> {
+        let named = |name: &str| PASSES.into_iter().find(|p| p.name() == name);
+        text.split(',').map(|name| named(name).ok_or(format!("unknown pass: {name}"))).collect()
+    }
 }
 
 /// One call: the pass and all inputs beside the mesh. `fields` has at most eight places.

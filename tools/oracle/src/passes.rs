@@ -9,6 +9,10 @@ struct Plain {
     floats: [f64; 32],
 }
 
+/// The port's fields are of three kinds. For another kind it gets a level at NaN, which document 01
+/// refuses with the same number.
+const UNKNOWN: (u32, [f64; 4]) = (0, [f64::NAN, 0., 0., 0.]);
+
 impl Plain {
     fn new(call: &Call) -> Self {
         let [x, y, z] = call.cells;
@@ -19,8 +23,9 @@ impl Plain {
             floats: [0.; 32],
         };
         for (j, (kind, numbers)) in call.fields.iter().take(8).enumerate() {
-            plain.kinds[j] = *kind;
-            plain.floats[4 * j..4 * j + 4].copy_from_slice(numbers);
+            let (kind, numbers) = if *kind > 2 { UNKNOWN } else { (*kind, *numbers) };
+            plain.kinds[j] = kind;
+            plain.floats[4 * j..4 * j + 4].copy_from_slice(&numbers);
         }
         plain
     }
@@ -48,6 +53,48 @@ unsafe extern "C" {
         work: *mut f64, work_len: usize,
         answer: &mut Result5,
     );
+    /// Intake's number.
+    fn h_intake(
+        parameters: *const f64, parameters_len: usize,
+        points: *const f64, points_len: usize,
+        masks: *const u32, masks_len: usize,
+        elements: *const u32, elements_len: usize,
+        surface: *const u32, surface_len: usize,
+        sizes: &[u32; 3],
+        bounds: &[f64; 6],
+        numbers: &[u32; 7],
+        kinds: &[u32; 8],
+        floats: &[f64; 32],
+        words: *mut u32, words_len: usize,
+        work: *const f64, work_len: usize,
+    ) -> u32;
+}
+
+fn plain_sizes(n: Sizes) -> [u32; 3] {
+    [n.vertices, n.elements, n.triples].map(|k| k as u32)
+}
+
+/// The port's intake alone.
+#[rustfmt::skip]
+pub fn intake(mesh: &Mesh, call: &Call, words: &mut [u32], floats: &[f64]) -> u32 {
+    let plain = Plain::new(call);
+    // Each pointer is that of a live buffer of the length beside it.
+    unsafe {
+        h_intake(
+            mesh.parameters.as_ptr(), mesh.parameters.len(),
+            mesh.points.as_ptr(), mesh.points.len(),
+            mesh.masks.as_ptr(), mesh.masks.len(),
+            mesh.elements.as_ptr(), mesh.elements.len(),
+            mesh.surface.as_ptr(), mesh.surface.len(),
+            &plain_sizes(mesh.sizes),
+            &call.bounds,
+            &plain.numbers,
+            &plain.kinds,
+            &plain.floats,
+            words.as_mut_ptr(), words.len(),
+            floats.as_ptr(), floats.len(),
+        )
+    }
 }
 
 #[rustfmt::skip]
@@ -57,8 +104,7 @@ pub fn port(mesh: &mut Mesh, call: &Call, words: &mut [u32], floats: &mut [f64])
         Pass::Smooth => call.regions.clone().unwrap_or_default(),
         _ => Vec::new(),
     };
-    let n = mesh.sizes;
-    let sizes = [n.vertices, n.elements, n.triples].map(|k| k as u32);
+    let sizes = plain_sizes(mesh.sizes);
     let mut out = [0; 5];
     // Each pointer is that of a live buffer of the length beside it.
     unsafe {

@@ -15,7 +15,8 @@ fn number(message: &str) -> u32 {
     }
 }
 
-fn body(mesh: &Mesh) -> Body {
+/// The mesh as the original takes it.
+pub fn body(mesh: &Mesh) -> Body {
     let n = mesh.sizes;
     (
         (0..n.vertices).map(|v| mesh.parameter(v)).collect(),

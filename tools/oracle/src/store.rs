@@ -180,7 +180,7 @@ fn units_text() -> String {
     );
     text += unit::FORM;
     let mut all = papers::units();
-    for name in units::NAMES {
+    for name in units::names() {
         all.extend(chosen_units(name, 40));
     }
     println!("{} units", all.len());

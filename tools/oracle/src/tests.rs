@@ -57,7 +57,7 @@ fn text_is_read_back() {
         assert_eq!(again[0].text(), text);
     }
     let mut r = Random::new(1);
-    for name in units::NAMES {
+    for name in units::names() {
         let line = units::unit(name, &mut r).line(&DOC01);
         let again = Unit::read(&mut Reader::new(&line)).unwrap();
         assert_eq!(again.line(&DOC01), line);

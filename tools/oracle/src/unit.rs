@@ -170,6 +170,14 @@ impl Unit {
         }
     }
 
+    /// Whether the port takes this input: its link test reads the bits 32 to 37 of a stratum off
+    /// the parameters, and no point lies on both faces of a direction.
+    #[cfg(feature = "bridge")]
+    pub fn fits_port(&self) -> bool {
+        let both = |m: &u64| [32, 34, 36].iter().any(|k| m >> k & 3 == 3);
+        !matches!(self, Unit::Link(_, _, _, strata) if strata.iter().any(both))
+    }
+
     pub fn line(&self, build: &Build) -> String {
         format!("{} {} = {}\n", self.name(), self.input(), self.answer(build))
     }

@@ -6,7 +6,8 @@ use crate::original::Point;
 use crate::random::Random;
 use crate::unit::{Shape, Unit};
 
-pub const NAMES: [&str; 15] = [
+/// The functions of floats alone.
+pub const FLOATS: [&str; 10] = [
     "root",
     "norm",
     "determinant",
@@ -17,12 +18,21 @@ pub const NAMES: [&str; 15] = [
     "cap",
     "value",
     "gradient",
+];
+
+/// The others.
+pub const OTHERS: [&str; 5] = [
     "project",
     "boundary",
     "link",
     "feature",
     "nonmanifold",
 ];
+
+/// All, in the order of stored files.
+pub fn names() -> impl Iterator<Item = &'static str> {
+    FLOATS.into_iter().chain(OTHERS)
+}
 
 const EDGES: [f64; 14] = [
     0.,
