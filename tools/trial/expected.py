@@ -220,3 +220,98 @@ for faults in range(256):
     coordinate = math.nan if faults & 4 else 0.0
     number = intake_number((7, len(tets), 4 * len(tets)), lengths, 17 if faults & 2 else 16, coordinate, tets)
     print(f"intake faults {faults} {number}")
+
+
+# The passes on the trial program's meshes: box -100 to 100, 200 cells a direction, masks 0.
+MESHES = [
+    ([], []),
+    (
+        [(0, 0, 0), (1, 0, 0), (0, 1, 0), (0, 0, 1), (-1, 0, 0), (0, -1, 0), (0, 0, -1)],
+        [(0, 1, 2, 3), (0, 4, 6, 5)],
+    ),
+] + [
+    ([(0, 0, 0), (16, 0, 0), (0, 16, 0), (0, 0, 16), (x, 0, 0)], [(4, 1, 2, 3), (0, 4, 2, 3)])
+    for x in (0.75, math.nextafter(0.75, 0))
+]
+
+
+def surface_of(tets):
+    keys = [tuple(sorted(f)) for t in tets for f in itertools.combinations(t, 3)]
+    return [k for k in keys if keys.count(k) == 1]
+
+
+def link(tets, s):
+    """The simplices that are apart from s and span one of the complex with it."""
+    found = set()
+    for t in tets:
+        if set(s) <= set(t):
+            rest = set(t) - set(s)
+            found |= {c for n in range(1, len(rest) + 1) for c in itertools.combinations(sorted(rest), n)}
+    return found
+
+
+def links_meet(tets, a, b):
+    return link(tets, [a]) & link(tets, [b]) == link(tets, [a, b])
+
+
+def manifold(tets):
+    """Whether the triangles about each surface vertex are one ring: each corner twice, all connected."""
+    faces = surface_of(tets)
+    for v in {v for f in faces for v in f}:
+        edges = [set(f) - {v} for f in faces if v in f]
+        corners = [u for e in edges for u in e]
+        if any(corners.count(u) != 2 for u in corners):
+            return False
+        reached = set(edges[0])
+        for _ in edges:
+            reached |= {u for e in edges if e & reached for u in e}
+        if reached != set(corners):
+            return False
+    return True
+
+
+def collapsed(points, tets, a, b):
+    """The elements after a goes into b, or None. With masks 0 and no vertex on the box all strata are empty."""
+    scores = [score([points[v] for v in t]) for t in tets if a in t]
+    kept = [tuple(b if v == a else v for v in t) for t in tets if a in t and b not in t]
+    if not links_meet(tets, a, b) or not links_meet(surface_of(tets), a, b):
+        return None
+    new = [score([points[v] for v in t]) for t in kept]
+    if any(not determinant([points[v] for v in t]) > 0 for t in kept):
+        return None
+    if any(s + 1e-12 < min(min(scores), 0.1) for s in new):
+        return None
+    fewer = sum(s < 0.1 for s in new) < sum(s < 0.1 for s in scores)
+    if not fewer and not min(new, default=1.0) > 1.001 * min(scores):
+        return None
+    return [tuple(b if v == a else v for v in t) for t in tets if not (a in t and b in t)]
+
+
+def improved(points, tets):
+    """One round of `improve`: its answer's numbers."""
+    limit = 0.75 * spacing([-100.0] * 3, [100.0] * 3, [200] * 3)
+    bad = [t for t in tets if score([points[v] for v in t]) < 0.1]
+    pairs = {tuple(sorted(e)) for t in bad for e in itertools.combinations(t, 2)}
+    length = {e: root(dot(*[sub(points[e[1]], points[e[0]])] * 2)) for e in pairs}
+    replaced = set()
+    for a, b in sorted((e for e in pairs if length[e] < limit), key=lambda e: (length[e], e)):
+        for u, v in ((a, b), (b, a)):
+            made = None if replaced & {a, b} else collapsed(points, tets, u, v)
+            if made is not None:
+                tets = made
+                replaced.add(u)
+    if not manifold(tets):
+        return [22]
+    used = {v for t in tets for v in t}
+    return [0, len(replaced), len(used), len(tets), len(surface_of(tets))]
+
+
+def smoothed(points, tets):
+    """`smooth` where no vertex has a score under 0.15 about it."""
+    assert all(score([points[v] for v in t]) >= 0.15 for t in tets)
+    return [0, 0, len(points), len(tets), len(surface_of(tets))]
+
+
+for mesh, way, passes in [(0, 0, 1), (0, 1, 1), (1, 0, 1), (1, 1, 1), (2, 0, 1), (3, 0, 1), (3, 0, 17), (3, 1, 17)]:
+    answer = [11] if passes > 16 else (smoothed if way else improved)(*MESHES[mesh])
+    print("pass", mesh, way, passes, *answer, 1, 1, 1)

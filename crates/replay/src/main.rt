@@ -1,5 +1,7 @@
-// Replays stored answers of the Rust: data/units.txt has single functions with their inputs and
-// answers. For each function the program prints how many lines agree and how many differ.
+// Replays stored answers of the Rust: data/units.txt has single functions with their inputs and answers. For each function the program prints
+// how many lines agree and how many differ.
+mod link;
+mod project;
 mod surface;
 mod text;
 mod units;
@@ -51,7 +53,20 @@ fn later_name(k: usize) {
     if k == 9 {
         return print(b"gradient");
     }
-    print(b"boundary")
+    last_name(k)
+}
+
+fn last_name(k: usize) {
+    if k == 10 {
+        return print(b"boundary");
+    }
+    if k == 11 {
+        return print(b"nonmanifold");
+    }
+    if k == 12 {
+        return print(b"link");
+    }
+    print(b"project")
 }
 
 // Whether the function of this kind gives the line's answer.
@@ -59,7 +74,27 @@ fn agrees(bytes: &[u8], at: usize, k: usize) -> bool {
     if k < 10 {
         return units::agrees(bytes, at, k);
     }
-    surface::boundary_agrees(bytes, at)
+    if k == 10 {
+        return surface::boundary_agrees(bytes, at);
+    }
+    if k == 11 {
+        return surface::nonmanifold_agrees(bytes, at);
+    }
+    if k == 12 {
+        return link::link_agrees(bytes, at);
+    }
+    project::project_agrees(bytes, at)
+}
+
+// Whether a line is one of this kind that is replayed.
+fn is_replayed(bytes: &[u8], at: usize, k: usize) -> bool {
+    if units::kind(bytes, at) != k {
+        return false;
+    }
+    if k == 12 {
+        return link::is_asked(bytes, at);
+    }
+    true
 }
 
 // How many lines of this kind agree (1) or differ (0).
@@ -67,7 +102,7 @@ fn tally(bytes: &[u8], k: usize, agree: bool) -> u64 {
     let mut n: u64 = 0;
     let mut at = 0;
     while at < bytes.len() {
-        if units::kind(bytes, at) == k {
+        if is_replayed(bytes, at, k) {
             if n < 0xffff_ffff {
                 if agrees(bytes, at, k) == agree {
                     n += 1;
@@ -80,7 +115,7 @@ fn tally(bytes: &[u8], k: usize, agree: bool) -> u64 {
 }
 
 fn report(bytes: &[u8]) {
-    for k in 0..11 {
+    for k in 0..14 {
         name(k);
         count(b": agree ", tally(bytes, k, true));
         count(b", differ ", tally(bytes, k, false));

@@ -1,14 +1,14 @@
-// A line of data/units.txt about the boundary: the number of elements and their words, = and 0 with the
-// number of triples and their words, or the number of the refusal.
+// Lines of data/units.txt about elements and surfaces.
 use crate::text::number;
 use mesh::boundary::Outcome;
 use mesh::boundary::boundary;
+use mesh::manifold::nonmanifold_in;
 use mesh::words::put_word;
 use mesh::words::word;
 ghost use Prim.Native.Nat.{_<_, _≤_};
 
 // Writes the words of a line from word `first` on, n of them, to the front of a slice.
-fn load(text: &[u8], at: usize, first: usize, n: usize, to: &mut [u32])
+pub(crate) fn load(text: &[u8], at: usize, first: usize, n: usize, to: &mut [u32])
     requires { ⌜ (first < 1000) × (n ≤ 1000) ⌝ }
 {
     let mut i = 0;
@@ -54,7 +54,8 @@ fn found(text: &[u8], at: usize, first: usize, o: Outcome, surface: &[u32]) -> b
     }
 }
 
-// Whether `boundary` gives the line's answer. Lines of more than 64 elements do not occur.
+// Whether `boundary` gives the line's answer: 0 with the number of triples and their words, or the number of the refusal. Lines of more than 64
+// elements do not occur.
 pub(crate) fn boundary_agrees(text: &[u8], at: usize) -> bool {
     let count = number(text, at, 1);
     if 64 < count {
@@ -67,4 +68,16 @@ pub(crate) fn boundary_agrees(text: &[u8], at: usize) -> bool {
     load(text, at, 2, 4 * n, &mut elements);
     let o = boundary(&elements, n, &mut surface, &mut work);
     found(text, at, 4 * n + 3, o, &surface)
+}
+
+// Whether the nonmanifold test gives the line's answer, which lists the nonmanifold vertices. Lines of more than 100 triples do not occur.
+pub(crate) fn nonmanifold_agrees(text: &[u8], at: usize) -> bool {
+    let count = number(text, at, 2);
+    if 100 < count {
+        return false;
+    }
+    let n = count as usize;
+    let mut work = [0u32; 8192];
+    load(text, at, 3, 3 * n, &mut work);
+    nonmanifold_in(&mut work, n) == (number(text, at, 3 * n + 4) != 0)
 }

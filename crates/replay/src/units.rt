@@ -11,7 +11,7 @@ use geometry::point::Point;
 ghost use Prim.Native.Nat.{_<_};
 
 // Which function a line names: 0 root, 1 norm, 2 determinant, 3 edges, 4 score, 5 spacing, 6 rank, 7 cap,
-// 8 value, 9 gradient, 10 boundary; 11 for a function that is not replayed, 12 for a line without one.
+// 8 value, 9 gradient, 10 boundary, 11 nonmanifold, 12 link, 13 project; 14 for a line that is not replayed.
 pub(crate) fn kind(text: &[u8], at: usize) -> usize {
     let a = byte(text, at);
     let c = if at < 0x1000_0000 {
@@ -19,12 +19,6 @@ pub(crate) fn kind(text: &[u8], at: usize) -> usize {
     } else {
         b' '
     };
-    if a == b'#' {
-        return 12;
-    }
-    if a == b'\n' {
-        return 12;
-    }
     if a == b'r' {
         return if c == b'o' { 0 } else { 6 };
     }
@@ -57,11 +51,17 @@ fn kind_by_letter(a: u8) -> usize {
     if a == b'b' {
         return 10;
     }
-    11
+    if a == b'l' {
+        return 12;
+    }
+    if a == b'p' {
+        return 13;
+    }
+    14
 }
 
 // The two zeros are equal, and so are any two NaNs.
-fn same(x: f64, y: f64) -> bool {
+pub(crate) fn same(x: f64, y: f64) -> bool {
     if x == y {
         return true;
     }
@@ -72,7 +72,7 @@ fn same(x: f64, y: f64) -> bool {
 }
 
 // The point in the three words from k on.
-fn point(text: &[u8], at: usize, k: usize) -> Point
+pub(crate) fn point(text: &[u8], at: usize, k: usize) -> Point
     requires { ⌜ k < 100 ⌝ }
 {
     Point {
@@ -83,7 +83,7 @@ fn point(text: &[u8], at: usize, k: usize) -> Point
 }
 
 // The box in the words 1 to 6.
-fn bounds(text: &[u8], at: usize) -> Bounds {
+pub(crate) fn bounds(text: &[u8], at: usize) -> Bounds {
     Bounds {
         lo: Point {
             x: float(text, at, 1),
@@ -103,17 +103,19 @@ fn small(text: &[u8], at: usize, k: usize) -> u32 {
     (number(text, at, k) % 0x1_0000_0000) as u32
 }
 
-// The field in the words 1 to 5: its kind and four floats.
-fn field(text: &[u8], at: usize) -> Field {
-    let k = number(text, at, 1);
-    if k == 0 {
-        return Field::Level(float(text, at, 2));
+// The field in the five words from k on: its kind and four floats.
+pub(crate) fn field(text: &[u8], at: usize, k: usize) -> Field
+    requires { ⌜ k < 90 ⌝ }
+{
+    let kind = number(text, at, k);
+    if kind == 0 {
+        return Field::Level(float(text, at, k + 1));
     }
-    let p = point(text, at, 2);
-    if k == 1 {
-        return Field::Plane(p, float(text, at, 5));
+    let p = point(text, at, k + 1);
+    if kind == 1 {
+        return Field::Plane(p, float(text, at, k + 4));
     }
-    Field::Ball(p, float(text, at, 5))
+    Field::Ball(p, float(text, at, k + 4))
 }
 
 // The determinant, the sum of squared edges or the score (kind 2, 3 or 4) of the points in the words 1 to 12.
@@ -158,7 +160,7 @@ fn rank(text: &[u8], at: usize) -> u64 {
 }
 
 fn gradient(text: &[u8], at: usize) -> bool {
-    let g = geometry::field::gradient(field(text, at), point(text, at, 6));
+    let g = geometry::field::gradient(field(text, at, 1), point(text, at, 6));
     if !same(g.x, float(text, at, 10)) {
         return false;
     }
@@ -198,7 +200,7 @@ fn box_agrees(text: &[u8], at: usize, k: usize) -> bool {
     }
     if k == 8 {
         return same(
-            geometry::field::value(field(text, at), point(text, at, 6)),
+            geometry::field::value(field(text, at, 1), point(text, at, 6)),
             float(text, at, 10),
         );
     }

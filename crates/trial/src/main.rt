@@ -2,6 +2,7 @@
 mod boxes;
 mod fields;
 mod intakes;
+mod passes;
 mod ranks;
 mod roots;
 mod scores;
@@ -16,4 +17,5 @@ fn main() {
     fields::run();
     words::run();
     intakes::run();
+    passes::run();
 }

@@ -6,10 +6,10 @@ use Rattle.replay.proofs.report.Statement.{statement}
 use Rattle.replay.proofs.report.Tie as tie
 
 abbrev Inv-loop : tie.InvT-loop
-Inv-loop bytes k₀ t3 t4 t5 k = k ≤ 11
+Inv-loop bytes k₀ t3 t4 t5 k = k ≤ 14
 
 abbrev μ-loop : tie.MeasureT-loop
-μ-loop bytes k₀ t3 t4 t5 k = 11 - k
+μ-loop bytes k₀ t3 t4 t5 k = 14 - k
 
 loop-holds : tie.Need-loop-holds Inv-loop μ-loop
 loop-holds c = search needs

@@ -14,8 +14,8 @@ abbrev μ-loop : tie.MeasureT-loop
 loop-holds : tie.Need-loop-holds Inv-loop μ-loop
 loop-holds c = search needs
 
-kind-requires : tie.Need-kind-requires Inv-loop μ-loop
-kind-requires c κs = search needs
+is-replayed-requires : tie.Need-is-replayed-requires Inv-loop μ-loop
+is-replayed-requires c κs = search needs
 
 agrees-requires : tie.Need-agrees-requires Inv-loop μ-loop
 agrees-requires c κs = search needs
@@ -42,7 +42,7 @@ tally-spec =
     Inv-loop
     μ-loop
     loop-holds
-    kind-requires
+    is-replayed-requires
     agrees-requires
     add-n
     next-line-requires
