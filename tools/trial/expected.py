@@ -3,14 +3,23 @@
 
 Run in the repository's folder:  python3 tools/trial/expected.py > crates/trial/stdout
 The cases are the constants of crates/trial/src; nothing else of the crates is read.
+With the word `cases` it prints the calls of `smooth` that move vertices, with what it works out, in the form that `oracle verify` reads.
 """
 import itertools
 import math
 import re
 import struct
+import sys
 from fractions import Fraction
 
 NAN = 0x7FF8000000000000
+CASES = sys.argv[1:] == ["cases"]
+
+
+def show(*words):
+    """Prints a line of the trial's output."""
+    if not CASES:
+        print(*words)
 
 
 def cases(module, name):
@@ -129,23 +138,23 @@ def order_bits(x):
 
 
 for n in cases("roots", "ROOTS"):
-    print(f"root {n:016x} {hexed(root(of(n)))}")
+    show(f"root {n:016x} {hexed(root(of(n)))}")
 for i, row in enumerate(rows(cases("scores", "POINTS"), 12)):
     p = [[of(n) for n in point] for point in rows(row, 3)]
     s = score(p)
-    print(f"score {i} {hexed(determinant(p), squared_edges(p), s)} {int(s < 0.1)}")
+    show(f"score {i} {hexed(determinant(p), squared_edges(p), s)} {int(s < 0.1)}")
 for value, lo, hi, periodic in rows(cases("ranks", "RANKS"), 4):
-    print(f"rank {value:016x} {lo:016x} {hi:016x} {periodic} {rank(of(value), of(lo), of(hi), periodic)}")
+    show(f"rank {value:016x} {lo:016x} {hi:016x} {periodic} {rank(of(value), of(lo), of(hi), periodic)}")
 for i, row in enumerate(rows(cases("boxes", "BOXES"), 12)):
     lo, hi, p = ([of(n) for n in part] for part in rows(row[:9], 3))
     bits = cap(p, lo, hi)
-    print(f"box {i} {hexed(spacing(lo, hi, row[9:]))} {bits:016x} {bits + 5:016x}")
+    show(f"box {i} {hexed(spacing(lo, hi, row[9:]))} {bits:016x} {bits + 5:016x}")
 for i, row in enumerate(rows(cases("fields", "FIELDS"), 8)):
     value, g = field(row[0], [of(n) for n in row[1:5]], [of(n) for n in row[5:]])
-    print(f"field {i} {row[0]} {hexed(value, *g, root(dot(g, g)))}")
+    show(f"field {i} {row[0]} {hexed(value, *g, root(dot(g, g)))}")
 for n in cases("words", "WORDS"):
     bits = pattern(of(n))
-    print(f"words {n:016x} {bits % 2**32} {bits >> 32} {order_bits(of(n)):016x}")
+    show(f"words {n:016x} {bits % 2**32} {bits >> 32} {order_bits(of(n)):016x}")
 
 
 # Intake, in the table's order, on the trial program's mesh.
@@ -203,23 +212,23 @@ for k in range(9):
     lengths = exact(7, 2)
     if 1 <= k <= 7:
         lengths[k - 1] -= 1
-    print(f"intake short {k} {intake_number((7, 2, 9 if k == 8 else 8), lengths, 16, 0.0, FIRST)}")
+    show(f"intake short {k} {intake_number((7, 2, 9 if k == 8 else 8), lengths, 16, 0.0, FIRST)}")
 for nv in (4096, 4097):
-    print(f"intake vertices {nv} {intake_number((nv, 2, 8), exact(nv, 2), 16, 0.0, FIRST)}")
+    show(f"intake vertices {nv} {intake_number((nv, 2, 8), exact(nv, 2), 16, 0.0, FIRST)}")
 for words in (1024, 1023):
-    print(f"intake empty {words} {intake_number((0, 0, 0), [0, 0, 0, 0, 0, words, 0], 16, 0.0, [])}")
+    show(f"intake empty {words} {intake_number((0, 0, 0), [0, 0, 0, 0, 0, words, 0], 16, 0.0, [])}")
 for n in cases("intakes", "COORDINATES"):
-    print(f"intake coordinate {n:016x} {intake_number((7, 2, 8), exact(7, 2), 16, of(n), FIRST)}")
+    show(f"intake coordinate {n:016x} {intake_number((7, 2, 8), exact(7, 2), 16, of(n), FIRST)}")
 for second in sorted(itertools.permutations(range(4))):
     tets = [FIRST[0], list(second)]
-    print(f"intake order {int(''.join(map(str, second)))} {intake_number((7, 2, 8), exact(7, 2), 16, 0.0, tets)}")
+    show(f"intake order {int(''.join(map(str, second)))} {intake_number((7, 2, 8), exact(7, 2), 16, 0.0, tets)}")
 for faults in range(256):
     tets = FIRST + [t for weight, t in ADDED if faults & weight]
     lengths = exact(7, len(tets))
     lengths[2] -= faults & 1
     coordinate = math.nan if faults & 4 else 0.0
     number = intake_number((7, len(tets), 4 * len(tets)), lengths, 17 if faults & 2 else 16, coordinate, tets)
-    print(f"intake faults {faults} {number}")
+    show(f"intake faults {faults} {number}")
 
 
 # The passes on the trial program's meshes: box -100 to 100, 200 cells a direction, masks 0.
@@ -306,12 +315,113 @@ def improved(points, tets):
     return [0, len(replaced), len(used), len(tets), len(surface_of(tets))]
 
 
-def smoothed(points, tets):
-    """`smooth` where no vertex has a score under 0.15 about it."""
-    assert all(score([points[v] for v in t]) >= 0.15 for t in tets)
-    return [0, 0, len(points), len(tets), len(surface_of(tets))]
+def projected(p, active):
+    """The candidate p brought onto the active field, of which there is at most one here, or None. No vertex is on the box."""
+    for _ in range(12 if active else 0):
+        value, g = field(*active[0], p)
+        if value == 0:
+            return p
+        size = root(dot(g, g))
+        if size == 0 or not math.isfinite(size) or not math.isfinite(value):
+            return None
+        g, value = [x / size for x in g], value / size
+        if abs(value) < 1e-12 * 200.0:
+            return p
+        if abs(dot(g, g)) < 2**-46:
+            return None
+        p = [p[a] - g[a] * (value / dot(g, g)) for a in range(3)]
+    return None if active else p
+
+
+def outside(fields, regions, p):
+    """Whether p is in no region; without a list of regions, whether some field is positive there."""
+    masks = [2**32 - 1] if regions is None else regions
+    return all(any(m >> j & 1 and field(*f, p)[0] > 1e-9 for j, f in enumerate(fields)) for m in masks)
+
+
+def candidates(points, tets, v):
+    near = sorted({u for t in tets if v in t for u in t} - {v})
+    sums = [points[near[0]][a] for a in range(3)]
+    for u in near[1:]:
+        sums = [sums[a] + points[u][a] for a in range(3)]
+    way = sub([x / float(len(near)) for x in sums], points[v])
+    found = [[points[v][a] + alpha * way[a] for a in range(3)] for alpha in (1.0, 0.5, 0.25)]
+    for axis in range(3):
+        for step in (-0.15, 0.15):
+            found.append([points[v][a] + step * 1.0 if a == axis else points[v][a] for a in range(3)])
+    return found
+
+
+def smoothed(points, tets, masks=None, fields=(), regions=None):
+    """`smooth` in the box of side 200 with h = 1: its answer's numbers and the points. No two vertices have one rank, none is on the box.
+
+    Which projected candidates are dropped, document 01 does not say: docs/DECISIONS.md does.
+    """
+    points, moved = [[float(x) for x in p] for p in points], 0
+    ranks = [[rank(x, -100.0, 100.0, False) for x in p] for p in points]
+    assert len({tuple(r) for r in ranks}) == len(points)
+    for v in sorted(range(len(points)), key=lambda v: ranks[v]):
+        about = [t for t in tets if v in t]
+        best = min([1.0] + [score([points[u] for u in t]) for t in about])
+        if best >= 0.15:
+            continue
+        active = [f for j, f in enumerate(fields) if masks[v] >> j & 1]
+        taken = None
+        for c in candidates(points, tets, v):
+            p = projected(c, active)
+            if p is None or any(not -100.0 <= x <= 100.0 for x in p) or root(dot(*[sub(p, points[v])] * 2)) > 0.5:
+                continue
+            if active and outside(fields, regions, p):
+                continue
+            new = [[p if u == v else points[u] for u in t] for t in about]
+            lowest = min([1.0] + [score(t) for t in new])
+            if all(determinant(t) > 0 for t in new) and lowest > best + 1e-10:
+                best, taken = lowest, p
+        if taken is not None:
+            points[v] = taken
+            moved += 1
+    return [0, moved, len(points), len(tets), len(surface_of(tets))], points
 
 
 for mesh, way, passes in [(0, 0, 1), (0, 1, 1), (1, 0, 1), (1, 1, 1), (2, 0, 1), (3, 0, 1), (3, 0, 17), (3, 1, 17)]:
-    answer = [11] if passes > 16 else (smoothed if way else improved)(*MESHES[mesh])
-    print("pass", mesh, way, passes, *answer, 1, 1, 1)
+    answer = [11] if passes > 16 else smoothed(*MESHES[mesh])[0] if way else improved(*MESHES[mesh])
+    show("pass", mesh, way, passes, *answer, 1, 1, 1)
+
+
+# `smooth` where vertices move: a corner of side 4, cut at a vertex close to a face; the fields, and the regions with their number in the line.
+CORNER = [(0, 0, 0), (4, 0, 0), (0, 4, 0), (0, 0, 4), (1, 1, 0.0625)]
+QUARTERS = [(4, 1, 2, 3), (0, 4, 2, 3), (0, 1, 4, 3), (0, 1, 2, 4)]
+CORNER_MASKS = [0, 0, 0, 0, 1]
+LEVEL = (0, [0.0625, 0.0, 0.0, 0.0])
+MOVES = [([], 0, None), ([LEVEL], 0, None), ([LEVEL], 1, []), ([LEVEL], 2, [1])]
+
+
+def move(fields, regions):
+    answer, points = smoothed(CORNER, QUARTERS, CORNER_MASKS, fields, regions)
+    return answer, [x for p in points for x in p] + [9.0] * 3
+
+
+def case(name, fields, regions):
+    """A call with its answer, as tools/oracle reads it."""
+    before = [float(x) for p in CORNER for x in p] + [9.0] * 3
+    answer, after = move(fields, regions)
+    words = [v for t in QUARTERS for v in t] + [7] * 18
+    return "\n".join(
+        [f"case {name}", "sizes 5 4 4", f"parameters 18 {hexed(*before)}", f"points 18 {hexed(*before)}"]
+        + ["masks 5 " + " ".join(f"{m:08x}" for m in CORNER_MASKS)]
+        + ["elements 34 " + " ".join(map(str, words)), "surface 50 " + " ".join(["5"] * 50)]
+        + ["calls 1", "call 1", "box " + hexed(*[-100.0, 100.0] * 3), "cells 200 200 200 periodic 0 passes 1"]
+        + [f"fields {len(fields)}"]
+        + [f"{kind} {hexed(*numbers)}" for kind, numbers in fields]
+        + ["regions 0" if regions is None else f"regions 1 {len(regions)} " + " ".join(f"{m:08x}" for m in regions)]
+        + ["work 2208 80", "answer " + " ".join(map(str, answer))]
+        + [f"parameters 15 {hexed(*after[:15])}", f"points 15 {hexed(*after[:15])}"]
+        + ["masks 0 elements 0 surface 0"]
+    )
+
+
+for fields, number, regions in MOVES:
+    answer, points = move(fields, regions)
+    show("smooth", len(fields), number, *answer, 1, 1, 1, hexed(*points))
+    if CASES:
+        print(case(f"move-{len(fields)}-{number}", fields, regions))

@@ -1,6 +1,10 @@
-// Replays stored answers of the Rust: data/units.txt has single functions with their inputs and answers. For each function the program prints
-// how many lines agree and how many differ.
+// Replays stored answers of the Rust: data/units.txt has single functions with their inputs and answers, data/passes.txt lists of calls of the
+// passes. For each function the program prints how many lines agree and how many differ, and the same for calls, with those not replayed.
+mod buffers;
+mod call;
 mod link;
+mod passes;
+mod pieces;
 mod project;
 mod surface;
 mod text;
@@ -123,7 +127,7 @@ fn report(bytes: &[u8]) {
     }
 }
 
-fn main() {
+fn replay_units() {
     let file = os::open_read(b"units.txt");
     if file < 0 {
         os::fail(b"units.txt");
@@ -133,4 +137,24 @@ fn main() {
     let n = io::read_full(file, &mut buffer);
     libc::close(file);
     report(&buffer[..n]);
+}
+
+fn replay_passes() {
+    let file = os::open_read(b"passes.txt");
+    if file < 0 {
+        os::fail(b"passes.txt");
+        return;
+    }
+    let mut buffer = [0u8; 65536];
+    let t = pieces::replay_file(file, &mut buffer);
+    libc::close(file);
+    count(b"calls: agree ", t.agree);
+    count(b", differ ", t.differ);
+    count(b", not replayed ", t.left);
+    print(b"\n");
+}
+
+fn main() {
+    replay_units();
+    replay_passes();
 }

@@ -60,7 +60,7 @@ fn digit(b: u8) -> u64 {
 }
 
 // The number whose digits in this base, 10 or 16, begin at i; of a longer number the last digits.
-fn read(text: &[u8], at: usize, base: u64) -> u64 {
+pub(crate) fn read(text: &[u8], at: usize, base: u64) -> u64 {
     let mut i = at;
     let mut n: u64 = 0;
     while i < text.len() {
@@ -104,4 +104,60 @@ pub(crate) fn float(text: &[u8], at: usize, k: usize) -> f64 {
         (n % 0x1_0000_0000) as u32,
         (n / 0x1_0000_0000 % 0x1_0000_0000) as u32,
     )
+}
+
+fn is_gap(b: u8) -> bool {
+    if b == b' ' {
+        return true;
+    }
+    b == b'\n'
+}
+
+// Where the word at `at` ends.
+fn word_end(text: &[u8], at: usize) -> usize {
+    let mut i = at;
+    while i < text.len() {
+        if is_gap(text[i]) {
+            return i;
+        }
+        i += 1;
+    }
+    i
+}
+
+// Where the next word begins, from a place between words on.
+fn gap_end(text: &[u8], at: usize) -> usize {
+    let mut i = at;
+    while i < text.len() {
+        if !is_gap(text[i]) {
+            return i;
+        }
+        i += 1;
+    }
+    i
+}
+
+// Where the word k words behind the one at `at` begins, on this line or a later one.
+pub(crate) fn ahead(text: &[u8], at: usize, k: usize) -> usize {
+    let mut i = at;
+    let mut left = k;
+    while 0 < left {
+        i = gap_end(text, word_end(text, i));
+        left -= 1;
+    }
+    i
+}
+
+// The word k words behind the one at `at`, as a decimal number.
+pub(crate) fn number_ahead(text: &[u8], at: usize, k: usize) -> u64 {
+    read(text, ahead(text, at, k), 10)
+}
+
+// The same as a u32, and as a float by its pattern.
+pub(crate) fn small_ahead(text: &[u8], at: usize, k: usize) -> u32 {
+    (number_ahead(text, at, k) % 0x1_0000_0000) as u32
+}
+
+pub(crate) fn float_ahead(text: &[u8], at: usize, k: usize) -> f64 {
+    float(text, ahead(text, at, k), 0)
 }

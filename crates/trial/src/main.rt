@@ -2,6 +2,7 @@
 mod boxes;
 mod fields;
 mod intakes;
+mod moves;
 mod passes;
 mod ranks;
 mod roots;
@@ -18,4 +19,5 @@ fn main() {
     words::run();
     intakes::run();
     passes::run();
+    moves::run();
 }

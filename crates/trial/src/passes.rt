@@ -23,7 +23,7 @@ struct Trial {
     passes: u32,
 }
 
-fn put_point(points: &mut [f64], v: usize, x: f64, y: f64, z: f64)
+pub(crate) fn put_point(points: &mut [f64], v: usize, x: f64, y: f64, z: f64)
     requires { ⌜ v < 1000 ⌝ }
 {
     put_float(points, 3 * v, x);
@@ -31,7 +31,7 @@ fn put_point(points: &mut [f64], v: usize, x: f64, y: f64, z: f64)
     put_float(points, 3 * v + 2, z);
 }
 
-fn put_tet(elements: &mut [u32], e: usize, a: u32, b: u32, c: u32, d: u32)
+pub(crate) fn put_tet(elements: &mut [u32], e: usize, a: u32, b: u32, c: u32, d: u32)
     requires { ⌜ e < 1000 ⌝ }
 {
     put_word(elements, 4 * e, a);
@@ -41,7 +41,7 @@ fn put_tet(elements: &mut [u32], e: usize, a: u32, b: u32, c: u32, d: u32)
 }
 
 // The corner of side s at 0.
-fn put_corner(points: &mut [f64], s: f64) {
+pub(crate) fn put_corner(points: &mut [f64], s: f64) {
     put_point(points, 0, 0.0, 0.0, 0.0);
     put_point(points, 1, s, 0.0, 0.0);
     put_point(points, 2, 0.0, s, 0.0);
@@ -82,7 +82,7 @@ fn put_mesh(mesh: u32, points: &mut [f64], elements: &mut [u32]) {
     put_cut(points, elements, cut_at(mesh));
 }
 
-fn sized(vertices: usize, elements: usize, triples: usize) -> Sizes {
+pub(crate) fn sized(vertices: usize, elements: usize, triples: usize) -> Sizes {
     Sizes {
         vertices: vertices,
         elements: elements,
@@ -116,7 +116,7 @@ fn cube(side: f64) -> Bounds {
 }
 
 // A box of side 200 in 200 cells a direction: h is 1.
-fn options(passes: u32) -> Options {
+pub(crate) fn options(passes: u32) -> Options {
     let cells = Cells {
         x: 200,
         y: 200,
@@ -178,7 +178,7 @@ fn called(
 }
 
 // Whether each word from place `from` on is w.
-fn all_words(x: &[u32], from: usize, w: u32) -> bool {
+pub(crate) fn all_words(x: &[u32], from: usize, w: u32) -> bool {
     let mut i = from;
     while i < x.len() {
         if x[i] != w {
@@ -190,7 +190,7 @@ fn all_words(x: &[u32], from: usize, w: u32) -> bool {
 }
 
 // Whether each float from place `from` on is w.
-fn all_floats(x: &[f64], from: usize, w: f64) -> bool {
+pub(crate) fn all_floats(x: &[f64], from: usize, w: f64) -> bool {
     let mut i = from;
     while i < x.len() {
         if x[i] != w {
@@ -219,7 +219,7 @@ fn four(n: usize) -> usize {
     if n < 1000 { 4 * n } else { 4000 }
 }
 
-fn show_answer(given: Answer) {
+pub(crate) fn show_answer(given: Answer) {
     match given {
         Answer::Done { count, sizes } => {
             number(0);
@@ -232,7 +232,7 @@ fn show_answer(given: Answer) {
     }
 }
 
-fn show_whether(b: bool) {
+pub(crate) fn show_whether(b: bool) {
     number(if b { 1 } else { 0 });
 }
 
