@@ -1,7 +1,7 @@
-//! Times of the port's improve and smooth, of its intake and of the original, on the same meshes.
-use crate::intake::boundary;
+//! Times of the port's passes, of its intake and of the original, on the same meshes.
 use crate::make::block::Block;
-use crate::mesh::{Answer, Call, Mesh, Pass, Sizes};
+use crate::make::papers::mesh;
+use crate::mesh::{Answer, Call, Mesh, PASSES, Pass};
 use crate::original::DOC01;
 use crate::passes;
 use crate::random::Random;
@@ -37,22 +37,48 @@ fn pressed(n: usize) -> Block {
     block
 }
 
-fn mesh(block: &Block) -> Mesh {
-    let surface = boundary(&block.tets).expect("a grid has a boundary");
-    let sizes =
-        Sizes { vertices: block.points.len(), elements: block.tets.len(), triples: surface.len() };
-    let flat: Vec<f64> = block.points.iter().flatten().copied().collect();
-    let mut mesh = Mesh {
-        sizes,
-        parameters: flat.clone(),
-        points: flat,
-        masks: vec![0; sizes.vertices],
-        elements: block.tets.iter().flatten().map(|&v| v as u32).collect(),
-        surface: surface.iter().flatten().map(|&v| v as u32).collect(),
+/// All elements around one edge: a ring of thin wedges.
+fn around_edge(n: usize) -> Block {
+    let turn = |i: usize| std::f64::consts::TAU * i as f64 / n as f64;
+    let mut points = vec![[0., 0., 0.], [0., 0., 1.]];
+    points.extend((0..n).map(|i| [10. * turn(i).cos(), 10. * turn(i).sin(), 0.5]));
+    let tets = (0..n).map(|i| [0, 2 + i, 2 + (i + 1) % n, 1]).collect();
+    Block { points, tets }
+}
+
+/// One vertex in all elements: the middle of a ball whose surface has `rings` rings of `sectors`.
+fn about_vertex(rings: usize, sectors: usize) -> Block {
+    let place = |i: usize, j: usize| {
+        let down = std::f64::consts::PI * (i + 1) as f64 / (rings + 1) as f64;
+        let turn = std::f64::consts::TAU * j as f64 / sectors as f64;
+        [10. * down.sin() * turn.cos(), 10. * down.sin() * turn.sin(), 10. * down.cos()]
     };
-    mesh.elements.resize(8 * sizes.elements, 0);
-    mesh.surface.resize(12 * sizes.elements, 0);
-    mesh
+    let mut points = vec![[0.; 3], [0., 0., 10.], [0., 0., -10.]];
+    points.extend((0..rings * sectors).map(|k| place(k / sectors, k % sectors)));
+    let at = |i: usize, j: usize| 3 + i * sectors + j % sectors;
+    let mut tets = Vec::new();
+    for j in 0..sectors {
+        tets.push([0, 1, at(0, j), at(0, j + 1)]);
+        tets.push([0, 2, at(rings - 1, j + 1), at(rings - 1, j)]);
+        for i in 1..rings {
+            tets.push([0, at(i - 1, j), at(i, j), at(i, j + 1)]);
+            tets.push([0, at(i - 1, j), at(i, j + 1), at(i - 1, j + 1)]);
+        }
+    }
+    let block = Block { points, tets };
+    let worst = block.tets.iter().map(|&t| block.det(t)).fold(f64::INFINITY, f64::min);
+    assert!(worst > 0., "an element is turned over");
+    block
+}
+
+/// The parameters of all vertices rounded to whole numbers of a coarse grid: few groups, each of
+/// many vertices.
+fn few_groups(mesh: &mut Mesh, call: &Call, side: f64) {
+    for (k, u) in mesh.parameters.iter_mut().enumerate() {
+        let [lo, hi] = [call.bounds[2 * (k % 3)], call.bounds[2 * (k % 3) + 1]];
+        let part = ((*u - lo) / (hi - lo) * (side - 1.)).round() / (side - 1.);
+        *u = (lo + (hi - lo) * part).clamp(lo, hi);
+    }
 }
 
 /// Three rounds, spacing 1, one level through the block.
@@ -107,30 +133,41 @@ fn original(mesh: &Mesh, call: &Call) -> (Duration, Option<usize>) {
     (clock.elapsed(), given.ok())
 }
 
-fn line(name: &str, block: &Block, n: usize, runs: u64) {
-    let mesh = mesh(block);
+fn line(name: &str, block: &Block, n: usize, groups: Option<f64>, runs: u64) {
     println!(
         "{name} {n}: {} vertices, {} elements, {:.0} % bad",
-        mesh.sizes.vertices,
-        mesh.sizes.elements,
+        block.points.len(),
+        block.tets.len(),
         100. * bad_part(block)
     );
-    for pass in [Pass::Improve, Pass::Smooth] {
-        let call = call(pass, block, n);
+    for pass in PASSES {
+        let (mut mesh, call) = (mesh(block), call(pass, block, n));
+        if let Some(side) = groups {
+            few_groups(&mut mesh, &call, side);
+        }
         let (ours, given) = best(runs, || port(&mesh, &call));
         let (taken, _) = best(runs, || intake(&mesh, &call));
         let (theirs, count) = best(runs, || original(&mesh, &call));
         let ms = |d: Duration| d.as_secs_f64() * 1000.;
         println!(
-            "  {:8} port {:9.3} ms, its intake {:8.3} ms, original {:9.3} ms; {given:?}, original {count:?}",
-            pass.name(), ms(ours), ms(taken), ms(theirs)
+            "  {:8} port {:9.3} ms, its intake {:8.3} ms, original {:9.3} ms, {:.2} of it; {given:?}, original {count:?}",
+            pass.name(),
+            ms(ours),
+            ms(taken),
+            ms(theirs),
+            ms(ours) / ms(theirs)
         );
     }
 }
 
 pub fn report(runs: u64) {
     for n in [3, 6, 10, 13] {
-        line("distorted", &distorted(n), n, runs);
+        line("distorted", &distorted(n), n, None, runs);
     }
-    line("pressed", &pressed(13), 13, runs);
+    line("pressed", &pressed(13), 13, None, runs);
+    line("around an edge", &around_edge(4094), 20, None, runs);
+    line("about a vertex", &about_vertex(45, 90), 20, None, runs);
+    for side in [2., 4.] {
+        line("in few groups", &distorted(13), 13, Some(side), runs);
+    }
 }

@@ -17,6 +17,8 @@ mod bridge;
 mod bridge_surface;
 #[cfg(feature = "bridge-mesh")]
 mod bridge_mesh;
+#[cfg(feature = "bridge-plot")]
+mod bridge_plot;
 mod case;
 mod coverage;
 mod differ;
@@ -26,6 +28,8 @@ mod mesh;
 mod original;
 #[cfg(feature = "bridge-passes")]
 mod passes;
+mod plot;
+mod plots;
 mod random;
 mod shell;
 mod store;
@@ -36,6 +40,7 @@ mod unit;
 mod wholeness;
 
 use make::Scale;
+use std::io::Write;
 use std::process::ExitCode;
 
 const USAGE: &str = "\
@@ -51,6 +56,11 @@ oracle agree COUNT [SEED [PASSES]]  COUNT lists of calls on the port's passes, a
                                     original stands for the port)
 oracle bench [RUNS]                 times of the port's improve and smooth, of intake and of the
                                     original (feature bridge-passes)
+oracle plot FILE                    what `plot` prints for a block file
+oracle plot-file SEED               write a generated block file to standard output
+oracle plots COUNT [SEED]           COUNT block files, whole and damaged, on the port's report function
+                                    (feature bridge-plot; without it the original stands for the port)
+oracle plots-program PATH COUNT [SEED]  the same through the program at PATH
 oracle wholeness COUNT [SEED]       demand 3's four statements on lists of calls of the original
 oracle store FOLDER                 write the stored answers passes.txt and units.txt";
 
@@ -97,6 +107,20 @@ fn bench(_: u64) -> Result<(), String> {
     Err("bench needs the port: build with --features bridge-passes".to_string())
 }
 
+#[cfg(feature = "bridge-plot")]
+const PLOT: plots::Port = bridge_plot::port;
+#[cfg(not(feature = "bridge-plot"))]
+const PLOT: plots::Port = plots::mirror;
+
+fn write_plot(seed: u64) -> Result<(), String> {
+    std::io::stdout().write_all(&plots::good(seed)).map_err(|e| e.to_string())
+}
+
+fn print_plot(path: &str) -> Result<(), String> {
+    print!("{}", plot::plot(&std::fs::read(path).map_err(|e| format!("{path}: {e}"))?));
+    Ok(())
+}
+
 #[cfg(feature = "bridge")]
 fn compare(count: u64, seed: u64) -> Result<(), String> {
     bridge::report(count, seed)
@@ -122,6 +146,13 @@ fn command(args: &[String]) -> Result<(), String> {
             agree::report(PASSES, number(rest.first(), 2000)?, number(rest.get(1), 1)?, &passes)
         }
         Some("bench") => bench(number(rest.first(), 5)?),
+        Some("plot") => print_plot(rest.first().ok_or("plot: a file is needed")?),
+        Some("plot-file") => write_plot(number(rest.first(), 1)?),
+        Some("plots") => plots::report(PLOT, number(rest.first(), 2000)?, number(rest.get(1), 1)?),
+        Some("plots-program") => {
+            let path = rest.first().ok_or("plots-program: a path is needed")?;
+            plots::report_program(path, number(rest.get(1), 2000)?, number(rest.get(2), 1)?)
+        }
         Some("wholeness") => {
             wholeness::report(number(rest.first(), 2000)?, number(rest.get(1), 1)?)
         }

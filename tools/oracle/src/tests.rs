@@ -4,6 +4,8 @@ use crate::intake;
 use crate::make::{self, Scale, papers, units};
 use crate::mesh::Answer;
 use crate::original::{self, DOC01, DOC01_COUNTED, UNTOUCHED, UNTOUCHED_COUNTED};
+use crate::plot;
+use crate::plots;
 use crate::random::Random;
 use crate::text::Reader;
 use crate::unit::Unit;
@@ -86,5 +88,39 @@ fn counters_change_nothing() {
         let case = make::case(seed, Scale::Any);
         assert_eq!(text(&case, &DOC01), text(&case, &DOC01_COUNTED));
         assert_eq!(text(&case, &UNTOUCHED), text(&case, &UNTOUCHED_COUNTED));
+    }
+}
+
+#[test]
+fn plot_of_document_01() {
+    let m4 = papers::cases().into_iter().find(|c| c.name == "m4").unwrap();
+    let file = plot::write(&m4.calls[0], &m4.mesh);
+    let table = "vertices 4 elements 1\ncollapse 0 move 0 reconnect 0\nlow 0 euler 1\ninside 0 1\nelement 0 1 2 3\n";
+    assert_eq!(plot::plot(&file), table);
+    assert_eq!(plot::plot(&file[..file.len() - 1]), "refused 1\n");
+    assert_eq!(plot::plot(&[file.as_slice(), &[0]].concat()), "refused 1\n");
+    assert_eq!(plot::plot(&[]), "refused 1\n");
+    let changed = |i: usize, value: u8, sealed: bool| {
+        let mut file = file.clone();
+        file[i] = value;
+        if sealed {
+            plot::seal(&mut file[i / 512 * 512..i / 512 * 512 + 512]);
+        }
+        plot::plot(&file)
+    };
+    assert_eq!(changed(12, 5, false), "refused 2\n");
+    assert_eq!(changed(0, 2, true), "refused 3\n");
+    assert_eq!(changed(12, 25, true), "refused 10\n");
+    assert_eq!(changed(4 * 23, 3, true), "refused 11\n");
+    assert_eq!(changed(1024 + 12, 4, true), "refused 13\n");
+}
+
+#[test]
+fn block_files_are_read_back() {
+    for seed in 0..500 {
+        let file = plots::good(seed);
+        if let Ok((call, mesh)) = plot::read(&file) {
+            assert_eq!(plot::write(&call, &mesh), file);
+        }
     }
 }

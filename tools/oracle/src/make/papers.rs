@@ -21,7 +21,8 @@ fn call(pass: Pass, block: &Block, bounds: [f64; 6], cells: u32) -> Call {
     }
 }
 
-fn mesh(block: &Block) -> Mesh {
+/// A block as a mesh, its parameters the points, with spare places in the buffers.
+pub fn mesh(block: &Block) -> Mesh {
     let surface = boundary(&block.tets).unwrap_or_default();
     let sizes =
         Sizes { vertices: block.points.len(), elements: block.tets.len(), triples: surface.len() };

@@ -1,0 +1,213 @@
+//! Document 01's `plot` around the original: blocks read, the three passes once, the table's text.
+use crate::intake;
+use crate::mesh::{Answer, Call, Mesh, PASSES, Pass, Sizes};
+use crate::original::{DOC01, value};
+use crate::shell;
+use std::collections::BTreeSet;
+
+const BLOCK: usize = 512;
+const VERTICES: usize = 9;
+const ELEMENTS: usize = 31;
+const MOST: usize = 24;
+
+type Words = [u32; 128];
+
+/// The block k of a file, or 1, 2 or 3.
+fn block(file: &[u8], k: usize, kind: u32, count: usize) -> Result<Words, u32> {
+    let bytes = file.get(BLOCK * k..BLOCK * (k + 1)).ok_or(1u32)?;
+    let word = |i: usize| u32::from_le_bytes(std::array::from_fn(|b| bytes[4 * i + b]));
+    let words: Words = std::array::from_fn(word);
+    if words.iter().fold(0u32, |sum, &w| sum.wrapping_add(w)) != 0 {
+        return Err(2);
+    }
+    if words[..3] == [kind, k as u32, count as u32] { Ok(words) } else { Err(3) }
+}
+
+fn float(words: &Words, i: usize) -> f64 {
+    f64::from_bits(u64::from(words[i]) | u64::from(words[i + 1]) << 32)
+}
+
+fn floats<const N: usize>(words: &Words, i: usize) -> [f64; N] {
+    std::array::from_fn(|k| float(words, i + 2 * k))
+}
+
+/// All blocks of a kind from the block k on: `total` records, `full` a block.
+fn blocks(
+    file: &[u8],
+    k: &mut usize,
+    kind: u32,
+    total: usize,
+    full: usize,
+) -> Result<Vec<Words>, u32> {
+    let mut all = Vec::new();
+    for i in 0..total.div_ceil(full) {
+        all.push(block(file, *k, kind, full.min(total - full * i))?);
+        *k += 1;
+    }
+    Ok(all)
+}
+
+/// The header's numbers beside the counts.
+fn call(header: &Words) -> Call {
+    let count = header[22];
+    let places = count.min(8) as usize;
+    Call {
+        pass: Pass::Improve,
+        bounds: floats(header, 5),
+        cells: [header[17], header[18], header[19]],
+        periodic: header[20],
+        passes: header[21],
+        field_count: count,
+        fields: (0..places).map(|j| (header[23 + 9 * j], floats(header, 24 + 9 * j))).collect(),
+        regions: None,
+        words: 256 * MOST + 32 * MOST + 1024,
+        floats: 16 * MOST,
+    }
+}
+
+/// The mesh of a file's vertex and element blocks, with its boundary as the surface if it has one.
+fn mesh(vertices: (usize, &[Words]), elements: (usize, &[Words])) -> Mesh {
+    let mut mesh = Mesh { elements: vec![0; 8 * MOST], ..Mesh::default() };
+    for v in 0..vertices.0 {
+        let (words, i) = (&vertices.1[v / VERTICES], 3 + 13 * (v % VERTICES));
+        mesh.parameters.extend(floats::<3>(words, i));
+        mesh.points.extend(floats::<3>(words, i + 6));
+        mesh.masks.push(words[i + 12]);
+    }
+    for e in 0..elements.0 {
+        let (words, i) = (&elements.1[e / ELEMENTS], 3 + 4 * (e % ELEMENTS));
+        mesh.elements[4 * e..4 * e + 4].copy_from_slice(&words[i..i + 4]);
+    }
+    let tets: Vec<_> = (0..elements.0).map(|i| mesh.element(i)).collect();
+    let surface = intake::boundary(&tets).unwrap_or_default();
+    mesh.sizes =
+        Sizes { vertices: vertices.0, elements: elements.0, triples: surface.len() };
+    mesh.surface = surface.into_iter().flatten().map(|v| v as u32).collect();
+    mesh.surface.resize(12 * 2 * MOST, 0);
+    mesh
+}
+
+/// What a file holds, or 1, 2, 3 or 10.
+pub fn read(file: &[u8]) -> Result<(Call, Mesh), u32> {
+    let header = block(file, 0, 1, 1)?;
+    let [nv, ne] = [header[3] as usize, header[4] as usize];
+    if nv > MOST || ne > MOST {
+        return Err(10);
+    }
+    let mut k = 1;
+    let vertices = blocks(file, &mut k, 2, nv, VERTICES)?;
+    let elements = blocks(file, &mut k, 3, ne, ELEMENTS)?;
+    if file.len() > BLOCK * k {
+        return Err(1);
+    }
+    Ok((call(&header), mesh((nv, &vertices), (ne, &elements))))
+}
+
+/// Vertices - edges + triangles - elements of the elements.
+fn alternating(tets: &[[usize; 4]]) -> i64 {
+    let mut simplices = [const { BTreeSet::new() }; 4];
+    for t in tets {
+        for bits in 1..16usize {
+            let mut s: Vec<_> = (0..4).filter(|k| bits >> k & 1 == 1).map(|k| t[k]).collect();
+            s.sort_unstable();
+            simplices[s.len() - 1].insert(s);
+        }
+    }
+    let [v, e, f, t] = simplices.map(|s| s.len() as i64);
+    v - e + f - t
+}
+
+/// The table after a run with these counts.
+fn table(call: &Call, mesh: &Mesh, counts: [usize; 3]) -> String {
+    let tets: Vec<_> = (0..mesh.sizes.elements).map(|i| mesh.element(i)).collect();
+    let bad = |t: &&[usize; 4]| (DOC01.score)(t.map(|v| mesh.point(v))) < 0.1;
+    let [collapse, moved, reconnect] = counts;
+    let mut out = format!("vertices {} elements {}\n", mesh.sizes.vertices, tets.len());
+    out += &format!("collapse {collapse} move {moved} reconnect {reconnect}\n");
+    out += &format!("low {} euler {}\n", tets.iter().filter(bad).count(), alternating(&tets));
+    for (j, &field) in call.fields.iter().enumerate() {
+        let inside = tets.iter().filter(|t| value(field, mesh.point(t[0])) <= 0.).count();
+        out += &format!("inside {j} {inside}\n");
+    }
+    for [a, b, c, d] in tets {
+        out += &format!("element {a} {b} {c} {d}\n");
+    }
+    out
+}
+
+fn run(file: &[u8]) -> Result<String, u32> {
+    let (mut call, mut mesh) = read(file)?;
+    let mut counts = [0; 3];
+    for pass in PASSES {
+        call.pass = pass;
+        match shell::run(&DOC01, &mut mesh, &call) {
+            Answer::Done(count, _) => counts[pass as usize] = count,
+            Answer::Refused(number) => return Err(number),
+        }
+    }
+    Ok(table(&call, &mesh, counts))
+}
+
+/// What `plot` prints for a file.
+pub fn plot(file: &[u8]) -> String {
+    run(file).unwrap_or_else(|number| format!("refused {number}\n"))
+}
+
+/// Sets word 127 of a block such that all words add to 0.
+pub fn seal(block: &mut [u8]) {
+    let word = |i: usize| u32::from_le_bytes(std::array::from_fn(|b| block[4 * i + b]));
+    let sum = (0..127).fold(0u32, |sum, i| sum.wrapping_add(word(i)));
+    block[508..].copy_from_slice(&sum.wrapping_neg().to_le_bytes());
+}
+
+/// A file in the making: words are added to its last block.
+struct File(Vec<u32>);
+
+impl File {
+    fn block(&mut self, kind: usize, count: usize) {
+        let k = self.0.len().div_ceil(128);
+        self.0.resize(128 * k, 0);
+        self.0.extend([kind, k, count].map(|n| n as u32));
+    }
+
+    fn floats(&mut self, values: &[f64]) {
+        self.0.extend(values.iter().flat_map(|x| [x.to_bits() as u32, (x.to_bits() >> 32) as u32]));
+    }
+
+    fn bytes(mut self) -> Vec<u8> {
+        self.0.resize(self.0.len().next_multiple_of(128), 0);
+        let mut bytes: Vec<_> = self.0.iter().flat_map(|w| w.to_le_bytes()).collect();
+        bytes.chunks_mut(BLOCK).for_each(seal);
+        bytes
+    }
+}
+
+/// The block file of a mesh and a call's box, numbers and fields.
+pub fn write(call: &Call, mesh: &Mesh) -> Vec<u8> {
+    let n = mesh.sizes;
+    let mut file = File(Vec::new());
+    file.block(1, 1);
+    file.0.extend([n.vertices as u32, n.elements as u32]);
+    file.floats(&call.bounds);
+    file.0.extend(call.cells);
+    file.0.extend([call.periodic, call.passes, call.field_count]);
+    for (kind, numbers) in &call.fields {
+        file.0.push(*kind);
+        file.floats(numbers);
+    }
+    for v in 0..n.vertices {
+        if v % VERTICES == 0 {
+            file.block(2, VERTICES.min(n.vertices - v));
+        }
+        file.floats(&mesh.parameter(v));
+        file.floats(&mesh.point(v));
+        file.0.push(mesh.masks[v]);
+    }
+    for e in 0..n.elements {
+        if e % ELEMENTS == 0 {
+            file.block(3, ELEMENTS.min(n.elements - e));
+        }
+        file.0.extend(mesh.element(e).map(|v| v as u32));
+    }
+    file.bytes()
+}

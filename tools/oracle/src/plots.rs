@@ -1,0 +1,157 @@
+//! Block files, whole and damaged, on a port's `plot` and on document 01's around the original.
+use crate::make::{self, Scale};
+use crate::plot::{plot, seal, write};
+use crate::random::Random;
+use std::collections::BTreeMap;
+use std::io::Write;
+use std::process::{Command, Stdio};
+
+/// A side that gives the text for a file.
+pub type Port = fn(&[u8]) -> Vec<u8>;
+
+/// The original itself as port: the comparison's own trial.
+#[cfg(not(feature = "bridge-plot"))]
+pub fn mirror(file: &[u8]) -> Vec<u8> {
+    plot(file).into_bytes()
+}
+
+/// The block file of a generated case within the limits of `plot`: always the same for a seed.
+pub fn good(seed: u64) -> Vec<u8> {
+    let fits = |i: u64| {
+        let case = make::case(seed.wrapping_mul(1000).wrapping_add(i), Scale::Small);
+        let n = case.mesh.sizes;
+        let whole = case.mesh.parameters.len() >= 3 * n.vertices.min(25)
+            && case.mesh.points.len() >= 3 * n.vertices.min(25)
+            && case.mesh.masks.len() >= n.vertices.min(25)
+            && case.mesh.elements.len() >= 4 * n.elements.min(25);
+        (n.vertices <= 24 && n.elements <= 24 && whole).then(|| write(&case.calls[0], &case.mesh))
+    };
+    (0..).find_map(fits).unwrap()
+}
+
+fn odd_word(r: &mut Random) -> u32 {
+    r.pick(&[0, 1, 2, 3, 8, 9, 24, 25, 4096, 4097, 0x7FF0_0000, 0x7FF8_0000, 0x8000_0000, u32::MAX])
+}
+
+/// One change: a byte, a word of a sealed block, a cut, bytes behind, blocks exchanged or twice.
+pub fn damage(file: &mut Vec<u8>, r: &mut Random) {
+    let blocks = file.len() / 512;
+    match r.below(8) {
+        0 if !file.is_empty() => {
+            let i = r.below(file.len());
+            file[i] ^= 1 << r.below(8);
+        }
+        1 => file.truncate(r.below(file.len() + 1)),
+        2 => {
+            let more = r.pick(&[1, 4, 511, 512, 1024]);
+            file.extend(std::iter::repeat_n(r.bits() as u8, more));
+        }
+        3 if blocks > 1 => {
+            let (i, j) = (r.below(blocks), r.below(blocks));
+            for b in 0..512 {
+                file.swap(512 * i + b, 512 * j + b);
+            }
+        }
+        4 if blocks > 1 => {
+            let i = r.below(blocks);
+            file.drain(512 * i..512 * (i + 1));
+        }
+        5 if blocks > 0 => {
+            let (i, word) = (r.below(blocks), r.below(40));
+            file[512 * i + 4 * word..][..4].copy_from_slice(&odd_word(r).to_le_bytes());
+            seal(&mut file[512 * i..512 * (i + 1)]);
+        }
+        _ if blocks > 0 => {
+            let (i, word) = (r.below(blocks), r.below(127));
+            file[512 * i + 4 * word + r.below(4)] ^= 1 << r.below(8);
+            seal(&mut file[512 * i..512 * (i + 1)]);
+        }
+        _ => file.push(r.bits() as u8),
+    }
+}
+
+/// The file number i: whole one time in four, else with one to three changes.
+fn file(seed: u64, i: u64) -> Vec<u8> {
+    let mut r = Random::new(seed.wrapping_add(i));
+    let mut file = good(seed.wrapping_add(i / 16));
+    if i % 4 != 0 {
+        for _ in 0..r.between(1, 3) {
+            damage(&mut file, &mut r);
+        }
+    }
+    file
+}
+
+/// The answers met: how often a table and each number came.
+#[derive(Default)]
+struct Met(BTreeMap<String, u64>);
+
+impl Met {
+    fn add(&mut self, text: &str) {
+        let name = if text.starts_with("refused") { text.trim_end() } else { "table" };
+        *self.0.entry(name.to_string()).or_default() += 1;
+    }
+
+    fn print(&self) {
+        self.0.iter().for_each(|(name, count)| println!("{name:12} {count}"));
+    }
+}
+
+fn compare(port: impl Fn(&[u8]) -> Vec<u8>, files: impl Iterator<Item = Vec<u8>>) -> (u64, u64) {
+    let (mut met, mut count, mut different) = (Met::default(), 0, 0);
+    for file in files {
+        let right = plot(&file);
+        met.add(&right);
+        count += 1;
+        if port(&file) != right.as_bytes() {
+            different += 1;
+            if different <= 3 {
+                println!("file {} differs: {} bytes, original: {right}", count - 1, file.len());
+            }
+        }
+    }
+    met.print();
+    (count, different)
+}
+
+/// A good file with every byte changed in turn, and cut at every length.
+fn every_byte(good: &[u8]) -> impl Iterator<Item = Vec<u8>> {
+    let changed = (0..good.len()).flat_map(|i| [1u8, 0x80, 0xFF].map(|mask| (i, mask)));
+    let changed = changed.map(|(i, mask)| {
+        let mut file = good.to_vec();
+        file[i] ^= mask;
+        file
+    });
+    let cut = (0..good.len()).map(|n| good[..n].to_vec());
+    changed.chain(cut)
+}
+
+fn told(what: &str, (count, different): (u64, u64)) -> Result<(), String> {
+    println!("{count} files {what}, {different} different");
+    if different == 0 { Ok(()) } else { Err("the port differs from the original".to_string()) }
+}
+
+/// COUNT files from a seed, then one good file damaged at every byte and cut at every length.
+pub fn report(port: Port, count: u64, seed: u64) -> Result<(), String> {
+    told(&format!("from seed {seed}"), compare(port, (0..count).map(|i| file(seed, i))))?;
+    told("from one file, each byte changed, cut at each length", compare(port, every_byte(&good(seed))))
+}
+
+/// The program at a path as port.
+fn program(path: &str, input: &[u8]) -> Vec<u8> {
+    let mut child = Command::new(path)
+        .stdin(Stdio::piped())
+        .stdout(Stdio::piped())
+        .spawn()
+        .unwrap_or_else(|e| panic!("{path}: {e}"));
+    // A program that has read enough may close its input early.
+    let _ = child.stdin.take().unwrap().write_all(input);
+    let out = child.wait_with_output().expect("the program ends");
+    if out.status.success() { out.stdout } else { b"the program failed".to_vec() }
+}
+
+/// The same files through a program's standard input and output.
+pub fn report_program(path: &str, count: u64, seed: u64) -> Result<(), String> {
+    let port = |input: &[u8]| program(path, input);
+    told(&format!("from seed {seed} through {path}"), compare(port, (0..count).map(|i| file(seed, i))))
+}
