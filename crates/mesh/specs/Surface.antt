@@ -55,9 +55,9 @@ surfaceWords ts = cond (eqb (boundaryNumber ts) 0) (flat (map cornersOf (boundar
 
 -- ---- within one area
 
--- "16,384 elements", and 36 words an element
+-- at most 65,536 elements (`flip` may end with more than the 16,384 of a call), and 36 words for each
 unfoldable pub areaFits : ℕ → ℕ → Bool
-areaFits n area = leb n 16384 && leb (36 * n) area
+areaFits n area = leb n 65536 && leb (36 * n) area
 
 -- an answer, and the area afterwards
 pub record Filled : Type 0 where
@@ -154,7 +154,7 @@ faceArea n s = rows 4 (4 * n) (drop (4 * n) s)
 
 -- face rows stand behind n elements, each with the number of a face of theirs
 pub record FaceArea (n : ℕ) (s : List ℕ) : Type 0 where
-  pub few : n ≤ 16384
+  pub few : n ≤ 65536
   pub room : 36 * n ≤ length s
   pub known : every (λ r. ltb (getD r 3 0) (4 * n)) (faceArea n s) ≡ true
 

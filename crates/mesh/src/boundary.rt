@@ -37,11 +37,11 @@ pub(crate) fn triples_of(o: Outcome) -> usize
     }
 }
 
-// Whether n is at most 16,384 and an area for n elements fits into m words.
+// Whether n is at most 65,536 and an area for n elements fits into m words.
 fn area_fits(n: usize, m: usize) -> bool
     ensures { λ r. ⌜ r ≡ areaFits n m ⌝ }
 {
-    if 16384 < n {
+    if 65536 < n {
         return false;
     }
     36 * n <= m
@@ -102,7 +102,7 @@ fn put_row(area: &mut [u32], p: usize, f: Triple, number: u32)
 
 // Writes the face rows of n elements behind them.
 fn list_faces(area: &mut [u32], n: usize)
-    requires { ⌜ (n ≤ 16384) × (36 * n ≤ length (now area)) ⌝ }
+    requires { ⌜ (n ≤ 65536) × (36 * n ≤ length (now area)) ⌝ }
     ensures { λ _. ⌜ now (area .exit) ≡ paste (now (area .entry)) (4 * n) (flat (faceRows n (now (area .entry)))) (16 * n) ⌝ }
 {
     let mut p = 4 * n;
@@ -172,7 +172,7 @@ fn gather(area: &mut [u32], n: usize) -> Outcome
 }
 
 // The boundary of the n elements at the front of the area. The sorted triples stand behind the elements, and behind them all is 0.
-// 10 where the area is too small or n above 16,384, and then the area is as it was; else 16 or 17 by the first bad key, and
+// 10 where the area is too small or n above 65,536, and then the area is as it was; else 16 or 17 by the first bad key, and
 // then all behind the elements is 0.
 pub fn boundary_in(area: &mut [u32], n: usize) -> Outcome
     ensures { λ r. ⌜ _≡_ {A = Filled} (record { answer = r; area = now (area .exit) }) (boundaryIn n (now (area .entry))) ⌝ }

@@ -45,7 +45,7 @@ call-room n e f w h =
 
 area-fits : (n m : ℕ) → n ≤ 16384 → 36 * n ≤ m → areaFits n m ≡ true
 unfolding areaFits
-area-fits n m h k = and-intro (leb n 16384) (leb (36 * n) m) (le-leb n 16384 h) (le-leb (36 * n) m k)
+area-fits n m h k = and-intro (leb n 65536) (leb (36 * n) m) (le-leb n 65536 (omega arith)) (le-leb (36 * n) m k)
 
 filled-is : (n : ℕ) (s : List ℕ) → areaFits n (length s) ≡ true
     → boundaryIn n s ≡ record { answer = answerOf (tets n s); area = take (4 * n) s ++ (surfaceWords (tets n s) ++ zeroWords (length s - (4 * n + length (surfaceWords (tets n s))))) }

@@ -91,13 +91,13 @@ triples-few n s = go (boundaryNumber (tets n s)) refl
 
 -- ---- room
 
-pub fits-few : (n m : ℕ) → areaFits n m ≡ true → n ≤ 16384
+pub fits-few : (n m : ℕ) → areaFits n m ≡ true → n ≤ 65536
 unfolding areaFits
-fits-few n m h = leb-true n 16384 (and-left (leb n 16384) (leb (36 * n) m) h)
+fits-few n m h = leb-true n 65536 (and-left (leb n 65536) (leb (36 * n) m) h)
 
 pub fits-room : (n m : ℕ) → areaFits n m ≡ true → 36 * n ≤ m
 unfolding areaFits
-fits-room n m h = leb-true (36 * n) m (and-right (leb n 16384) (leb (36 * n) m) h)
+fits-room n m h = leb-true (36 * n) m (and-right (leb n 65536) (leb (36 * n) m) h)
 
 fit-rows : (n w m : ℕ) → 0 < w → n * w ≤ m → fitRows n w m ≡ true
 unfolding fitRows
@@ -122,7 +122,7 @@ module _ (n : ℕ) (s₀ : List ℕ) (fits : areaFits n (length s₀) ≡ true) 
     long₁ : length s₁ ≡ length s₀
     long₁ = ap length e₁ ∙ length-paste s₀ (4 * n) (flat (faceRows n s₀)) (16 * n) (omega (arith, room)) (omega (arith, length-words s₀ n))
 
-    pub part-room : (n ≤ 16384) × (4 * n ≤ length s₁)
+    pub part-room : (n ≤ 65536) × (4 * n ≤ length s₁)
     part-room = (fits-few n (length s₀) fits, omega (arith, long₁, room))
 
     pasted : s₁ ≡ take (4 * n) s₀ ++ (flat (faceRows n s₀) ++ drop (4 * n + 16 * n) s₀)
@@ -178,7 +178,7 @@ module _ (n : ℕ) (s₀ : List ℕ) (fits : areaFits n (length s₀) ≡ true) 
 
       -- and gathered
       module _ (s₃ : List ℕ) (r : Outcome) (long₃ : length s₃ ≡ length s₂) (g : Gathered n s₂ s₃ r) where
-        pub part-room₂ : (n ≤ 16384) × (4 * n ≤ length s₃)
+        pub part-room₂ : (n ≤ 65536) × (4 * n ≤ length s₃)
         part-room₂ = (fits-few n (length s₀) fits, omega (arith, long₃, long₂, room))
 
         answered₂ : r ≡ answer (boundaryNumber (tets n s₂)) (length (gathered n s₂))
@@ -276,7 +276,7 @@ module _ (n : ℕ) (s₀ : List ℕ) (fits : areaFits n (length s₀) ≡ true) 
                 ap length (tail-put (4 * n) s₃ x₂) ∙ length-append (take (4 * n) s₃) x₂
                 ∙ omega (arith, length-take-le (4 * n) s₃ (omega (arith, long₃, long₂, room)), ap length (f₂ ∙ ap (sortedArea c 3) (tail-mid (4 * n) s₃)), length-sorted c 3 (drop (4 * n) s₃), length-drop (4 * n) s₃, long₃, long₂, room)
 
-            pub end-room : (n ≤ 16384) × (c ≤ 4 * n) × (4 * n + 3 * c ≤ length s₄)
+            pub end-room : (n ≤ 65536) × (c ≤ 4 * n) × (4 * n + 3 * c ≤ length s₄)
             end-room = (fits-few n (length s₀) fits, few-found, omega (arith, few-found, long₄, room))
 
             front-long : length (take (4 * n) s₀ ++ surfaceWords (tets n s₀)) ≡ 4 * n + 3 * c

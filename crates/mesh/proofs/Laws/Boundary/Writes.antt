@@ -15,13 +15,13 @@ use Rattle.mesh.specs.Surface.{areaFits, callFits, faceAt, faceRow}
 
 -- ---- room
 
-pub area-many : (n m : ℕ) → 16384 < n → false ≡ areaFits n m
+pub area-many : (n m : ℕ) → 65536 < n → false ≡ areaFits n m
 unfolding areaFits
-area-many n m h = rw (lt-leb n 16384 h)
+area-many n m h = rw (lt-leb n 65536 h)
 
-pub area-test : (n m : ℕ) → n ≤ 16384 → leb (36 * n) m ≡ areaFits n m
+pub area-test : (n m : ℕ) → n ≤ 65536 → leb (36 * n) m ≡ areaFits n m
 unfolding areaFits
-area-test n m h = rw (le-leb n 16384 h)
+area-test n m h = rw (le-leb n 65536 h)
 
 pub call-many : (n e f w : ℕ) → 16384 < n → false ≡ callFits n e f w
 unfolding callFits

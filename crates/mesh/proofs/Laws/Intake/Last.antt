@@ -52,7 +52,7 @@ module _ (n : ℕ) (els w₀ : List ℕ) (few : n ≤ 16384) (long : 4 * n ≤ l
   part-fits : areaFits n (length (take (36 * n - 0) w₁)) ≡ true
   unfolding areaFits
   part-fits =
-      and-intro (leb n 16384) (leb (36 * n) (length (take (36 * n - 0) w₁))) (le-leb n 16384 few) (le-leb (36 * n) (length (take (36 * n - 0) w₁)) (omega (arith, part-long)))
+      and-intro (leb n 65536) (leb (36 * n) (length (take (36 * n - 0) w₁))) (le-leb n 65536 (omega arith)) (le-leb (36 * n) (length (take (36 * n - 0) w₁)) (omega (arith, part-long)))
 
   pub last-number : (r : Outcome) (p : List ℕ) → _≡_ {A = Filled} (record { answer = r; area = p }) (boundaryIn n (take (36 * n - 0) (drop 0 w₁)))
       → refusalOf r ≡ boundaryNumber (tets n els)

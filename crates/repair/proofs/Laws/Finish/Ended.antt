@@ -33,11 +33,11 @@ use Rattle.repair.proofs.Laws.Finish.Surface.{boundary-every, words-fla
 -- ---- by the number of the boundary
 
 -- the answer with no bad key, and its words
-good-answer : (ts : List Tet) → eqb (boundaryNumber ts) 0 ≡ true → answerOf ts ≡ Surface (length (boundaryOf ts))
+pub good-answer : (ts : List Tet) → eqb (boundaryNumber ts) 0 ≡ true → answerOf ts ≡ Surface (length (boundaryOf ts))
 unfolding answerOf answer
 good-answer ts e = rw e refl
 
-good-words : (ts : List Tet) → eqb (boundaryNumber ts) 0 ≡ true → surfaceWords ts ≡ flat (map cornersOf (boundaryOf ts))
+pub good-words : (ts : List Tet) → eqb (boundaryNumber ts) 0 ≡ true → surfaceWords ts ≡ flat (map cornersOf (boundaryOf ts))
 unfolding surfaceWords
 good-words ts e = rw e refl
 
@@ -46,7 +46,7 @@ unfolding endOf
 good-end ts e = rw e refl
 
 -- with a bad one
-bad-answer : (ts : List Tet) → eqb (boundaryNumber ts) 0 ≡ false → answerOf ts ≡ Refused (boundaryNumber ts)
+pub bad-answer : (ts : List Tet) → eqb (boundaryNumber ts) 0 ≡ false → answerOf ts ≡ Refused (boundaryNumber ts)
 unfolding answerOf answer
 bad-answer ts e = rw e refl
 
@@ -59,7 +59,7 @@ tested-answer : (ts : List Tet) (c : ℕ) → cond (nonmanifold (boundaryOf ts))
 unfolding answer
 tested-answer ts c = elim (split (nonmanifold (boundaryOf ts))) [ inl q ↦ rw q refl | inr q ↦ rw q refl ]
 
-refused-answer : (n c : ℕ) → eqb n 0 ≡ false → Refused n ≡ answer n c
+pub refused-answer : (n c : ℕ) → eqb n 0 ≡ false → Refused n ≡ answer n c
 unfolding answer
 refused-answer n c e = rw e refl
 
@@ -76,7 +76,7 @@ end-few k s h =
 filled-is : (k : ℕ) (s : List ℕ) → k ≤ 16384 → 36 * k ≤ length s
     → boundaryIn k s ≡ record { answer = answerOf (tets k s); area = take (4 * k) s ++ (surfaceWords (tets k s) ++ zeroWords (length s - (4 * k + length (surfaceWords (tets k s))))) }
 unfolding boundaryIn areaFits
-filled-is k s h r = rw (le-leb k 16384 h, le-leb (36 * k) (length s) r) refl
+filled-is k s h r = rw (le-leb k 65536 (omega arith), le-leb (36 * k) (length s) r) refl
 
 module _ (k nv : ℕ) (s₀ : List ℕ) (few : k ≤ 16384) (room : 112 * k + nv ≤ length s₀) (below : every (λ v. ltb v nv) (allVertices (tets k s₀)) ≡ true) (f : Outcome) (p : List ℕ)
     (found : _≡_ {A = Filled} (record { answer = f; area = p }) (boundaryIn k (midOf 0 (112 * k + nv - 0) s₀))) where
