@@ -15,5 +15,8 @@ pub mod Replace
 pub mod PairOk
 pub mod Round
 pub mod Tally
+pub mod Trio
+pub mod FlipLayout
+pub mod FlipEnd
 pub mod Finish
 pub mod Fitting

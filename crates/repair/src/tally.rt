@@ -35,7 +35,7 @@ pub(crate) fn start() -> Tally
 }
 
 // One more score.
-fn counted(r: Tally, s: f64) -> Tally
+pub(crate) fn counted(r: Tally, s: f64) -> Tally
     requires { ⌜ r .bad ≤ 16384 ⌝ }
     ensures { λ q. ⌜ q ≡ counted r s ⌝ }
 {
@@ -101,7 +101,7 @@ fn four_different(t: Tet) -> bool
 }
 
 // The score of an element.
-fn score_of(points: &[f64], nv: usize, t: Tet) -> f64
+pub(crate) fn score_of(points: &[f64], nv: usize, t: Tet) -> f64
     ensures { λ r. ⌜ r ≡ scoreOf (pointsOf nv (now (points .entry))) t ⌝ }
 {
     let a = vertex_point(points, nv, t.a);

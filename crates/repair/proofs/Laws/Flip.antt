@@ -9,3 +9,11 @@ pub mod Edge
 pub mod Pass
 pub mod End
 pub mod Shared
+pub mod Trio
+pub mod Layout
+pub mod Bound
+pub mod Keys
+pub mod Surface
+pub mod Ended
+pub mod Finish
+pub mod Written

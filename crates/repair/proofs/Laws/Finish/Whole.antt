@@ -36,7 +36,7 @@ use Rattle.repair.proofs.Laws.Finish.Elements.{words-all, all-words, us
 -- ---- an answer of `end_surface`
 
 -- a surface: no number, and so many triples
-taken-zero : (e n c : ℕ) → Surface c ≡ answer e n → (e ≡ 0) × (c ≡ n)
+pub taken-zero : (e n c : ℕ) → Surface c ≡ answer e n → (e ≡ 0) × (c ≡ n)
 unfolding answer
 taken-zero e n c h =
     elim (split (eqb e 0)) [
@@ -45,7 +45,7 @@ taken-zero e n c h =
     ]
 
 -- a refusal: its number
-refused-is : (e n c : ℕ) → Refused c ≡ answer e n → (eqb e 0 ≡ false) × (c ≡ e)
+pub refused-is : (e n c : ℕ) → Refused c ≡ answer e n → (eqb e 0 ≡ false) × (c ≡ e)
 unfolding answer
 refused-is e n c h =
     elim (split (eqb e 0)) [

@@ -48,7 +48,7 @@ floats-front (suc n) (a ∷ b ∷ c ∷ s) h =
     let e : 3 * suc n ≡ suc (suc (suc (3 * n))) = omega arith in
     ap (λ (l : List Float). a ∷ b ∷ c ∷ l) (floats-front n s (omega (arith, h))) ∙ sym (ap (λ k. take k (a ∷ b ∷ c ∷ s)) e)
 
-elements-front : (n : ℕ) (s : List ℕ) → 4 * n ≤ length s → elementWords (tets n s) ≡ take (4 * n) s
+pub elements-front : (n : ℕ) (s : List ℕ) → 4 * n ≤ length s → elementWords (tets n s) ≡ take (4 * n) s
 unfolding tets elementWords
 elements-front zero s h = refl
 elements-front (suc n) [] h = absurd (omega (arith, h))

@@ -1,0 +1,74 @@
+-- The end of `flip` on buffers: done with the new elements and surface, or refused and the buffers as they were. Assumes nothing.
+use mathlib.Core.Path.{_≡_, refl, sym, ap, ap₂, _∙_}
+use mathlib.Core.Logic.{inl, inr}
+use mathlib.Core.Bool.{true, cond}
+use mathlib.Core.List.{List}
+use Prim.Native.Nat.{ℕ, _+_, _*_, _≤_}
+use native.Mathlib.Omega.{arith}
+use borrow.Author.Tests.{eq-eqb, eqb-false}
+use lib.Dec.{eqb}
+use lib.ListN.{length, take, drop}
+use Rattle.mesh.specs.declared.element.Tet.{Tet}
+use Rattle.mesh.specs.declared.element.Triple.{Triple}
+use Rattle.mesh.specs.declared.intake.Sizes.{Sizes}
+use Rattle.mesh.specs.declared.boundary.Outcome.{Outcome}
+use Rattle.mesh.specs.declared.boundary.Outcome.the-variants.{Surface, Refused}
+use Rattle.mesh.specs.Element.{tets}
+use Rattle.mesh.specs.Boundary.{boundaryNumber, boundaryOf}
+use Rattle.mesh.specs.Surface.{triplesOf}
+use Rattle.mesh.specs.Manifold.{triples}
+use Rattle.mesh.proofs.Laws.Complex.Sets.{split}
+use Rattle.mesh.proofs.Laws.Boundary.Whole.{triples-few}
+use Rattle.mesh.proofs.Laws.Star.Scan.{length-tets}
+use Rattle.repair.specs.declared.answer.Answer.{Answer}
+use Rattle.repair.specs.declared.answer.Answer.the-variants as answers
+use Rattle.repair.specs.Flip.{endNumber}
+use Rattle.repair.specs.Step.{elementWords, tripleWords, over}
+use Rattle.repair.specs.FlipEnd.{SurfaceEnded, EndRoom, flipEnd}
+use Rattle.repair.proofs.Laws.Site.Pass.{elements-front}
+use Rattle.repair.proofs.Laws.Finish.Ended.{good-answer}
+use Rattle.repair.proofs.Laws.Finish.Whole.{refused-is, taken-zero}
+use Rattle.repair.proofs.Laws.Flip.Ended.{bad-end}
+
+-- a surface has no more than four triples an element
+few-triples : (fs : List Triple) (k : ℕ) (s : List ℕ) → endNumber fs (tets k s) ≡ 0 → length (boundaryOf (tets k s)) ≤ 4 * k
+few-triples fs k s h =
+    elim (split (eqb (boundaryNumber (tets k s)) 0)) [
+      | inl q ↦ omega (arith, triples-few k s, ap triplesOf (good-answer (tets k s) q))
+      | inr q ↦ absurd (eqb-false (boundaryNumber (tets k s)) 0 q (sym (bad-end fs (tets k s) q) ∙ h))
+    ]
+
+module _ {k g : ℕ} (e f s₀ : List ℕ) {s : List ℕ} {r : Outcome} (room : EndRoom k g (length e) (length f) (length s₀)) (E : SurfaceEnded k g f s₀ s r) where
+  module _ {c : ℕ} (hc : r ≡ Surface c) where
+    zero-end : endNumber (triples g f) (tets k s₀) ≡ 0
+    zero-end = taken-zero (endNumber (triples g f) (tets k s₀)) (length (boundaryOf (tets k s₀))) c (sym hc ∙ E .answer) .0
+
+    count-is : c ≡ length (boundaryOf (tets k s₀))
+    count-is = taken-zero (endNumber (triples g f) (tets k s₀)) (length (boundaryOf (tets k s₀))) c (sym hc ∙ E .answer) .1
+
+    few : c ≤ 4 * k
+    few = let n = few-triples (triples g f) k s₀ zero-end in let d = count-is in omega arith
+
+    -- the surface fits
+    pub commit-room : length s ≡ length s₀ → (k ≤ 65536) × (c ≤ 262144) × (4 * k + 3 * c ≤ length s) × (4 * k ≤ length e) × (3 * c ≤ length f)
+    commit-room l =
+        let n = few in let a = room .few in let b = room .area in let d = room .surface .1 in
+        (room .few, omega arith, omega arith, room .elements, omega arith)
+
+    pub flip-done : (count nv : ℕ) (e′ f′ : List ℕ) → e′ ≡ over (take (4 * k) s) e → f′ ≡ over (take (3 * c) (drop (4 * k) s)) f
+        → _≡_ {A = Answer × List ℕ × List ℕ} (answers.Done count (record { vertices = nv; elements = k; triples = c }), e′, f′) (flipEnd count nv (triples g f) (tets k s₀) e f)
+    unfolding flipEnd
+    flip-done count nv e′ f′ he hf =
+        let b = room .area in
+        let z : eqb (endNumber (triples g f) (tets k s₀)) 0 ≡ true = eq-eqb (endNumber (triples g f) (tets k s₀)) 0 zero-end in
+        let p : e′ ≡ over (elementWords (tets k s₀)) e = he ∙ ap (λ (u : List ℕ). over u e) (E .front ∙ sym (elements-front k s₀ (omega arith))) in
+        let q : f′ ≡ over (tripleWords (boundaryOf (tets k s₀))) f =
+        hf ∙ ap (λ (u : List ℕ). over u f) (ap (λ (n : ℕ). take (3 * n) (drop (4 * k) s)) count-is ∙ E .surface zero-end) in
+        let n : k ≡ length (tets k s₀) = sym (length-tets k s₀) in
+        (λ i. (answers.Done count (record { vertices = nv; elements = n i; triples = count-is i }), p i, q i)) ∙ sym (rw z refl)
+
+  pub flip-refused : {c : ℕ} → r ≡ Refused c → (count nv : ℕ) → _≡_ {A = Answer × List ℕ × List ℕ} (answers.Refused c, e, f) (flipEnd count nv (triples g f) (tets k s₀) e f)
+  unfolding flipEnd
+  flip-refused {c} hc count nv =
+      let h = refused-is (endNumber (triples g f) (tets k s₀)) (length (boundaryOf (tets k s₀))) c (sym hc ∙ E .answer) in
+      ap (λ (i : ℕ). (answers.Refused i, e, f)) (h .1) ∙ sym (rw (h .0) refl)

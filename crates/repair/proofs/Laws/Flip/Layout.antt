@@ -1,0 +1,72 @@
+-- The layout of `flip` in the work slice: its areas lie one behind the other, and what is written to the area behind them changes nothing
+-- of the state. Assumes nothing.
+use mathlib.Core.Path.{_≡_, refl, sym, ap, subst, _∙_}
+use mathlib.Core.Bool.{Bool, true, false, not, cond}
+use mathlib.Core.List.{List, [], _∷_, map}
+use mathlib.Core.Option.{Option, none, some}
+use Prim.Native.Nat.{ℕ, zero, suc, _+_, _*_, _≤_, _<_}
+use native.Mathlib.Omega.{arith}
+use lib.ListN.{length, drop}
+use Rattle.mesh.specs.declared.element.Tet.{Tet}
+use Rattle.mesh.specs.declared.star.Index.{Index}
+use Rattle.mesh.specs.Words.{wordAt}
+use Rattle.mesh.specs.Tests.{every}
+use Rattle.mesh.specs.Complex.{keep}
+use Rattle.mesh.specs.List.{gone}
+use Rattle.mesh.specs.Star.{Laid}
+use Rattle.mesh.specs.About as About
+use Rattle.mesh.proofs.Laws.Star.Calls.{answered-complete, answered-elements}
+use Rattle.mesh.proofs.Laws.Star.Scan.{length-tets}
+use Rattle.mesh.proofs.Laws.Boundary.Same.{length-map}
+use Rattle.repair.specs.Flip.{State, live}
+use Rattle.repair.specs.Layout.{Same, slotOk}
+use Rattle.repair.specs.FlipLayout.{Room, Stands, Kept, facesAt, slotOf, wordsIn}
+
+-- the areas of the index lie one behind the other
+pub room-laid : {x : Index} {n m : ℕ} → Room x n m → Laid x m
+room-laid r =
+    let a = r .room in let b = r .elements in let c = r .slots in let d = r .nexts in let e = r .heads in let f = r .lengths in let g = r .area in let h = r .long in
+    record { few = omega arith; nexts = omega arith; heads = omega arith; lengths = omega arith; area = omega arith; end = omega arith }
+
+-- the area has room for 132 words an element
+pub area-long : {x : Index} {n m : ℕ} → Room x n m → x .area + 132 * n + 30 * x .vertices + 1024 ≤ m
+area-long r = let f = r .lengths in let g = r .area in let h = r .long in omega arith
+
+-- the live elements are those of the slots that are not gone
+pub live-slots : (ts : List Tet) → live (map slotOf ts) ≡ keep About.live ts
+unfolding live slotOf
+live-slots [] = refl
+live-slots (t ∷ ts) = go (gone t) (live-slots ts)
+  where
+    go : (b : Bool) → live (map slotOf ts) ≡ keep About.live ts → live (cond b none (some t) ∷ map slotOf ts) ≡ cond (not b) (t ∷ keep About.live ts) (keep About.live ts)
+    go true h = h
+    go false h = ap (λ l. t ∷ l) h
+
+module _ {x : Index} {n c : ℕ} {w : List ℕ} {s : State} (z : Stands x n c w s) where
+  -- how many slots there are
+  pub slots-many : length (s .slots) ≡ c
+  slots-many = ap length (z .slots) ∙ length-map slotOf (wordsIn x c w) ∙ length-tets c (drop (x .slots) w)
+
+  -- the live elements of the state
+  pub stands-live : live (s .slots) ≡ keep About.live (wordsIn x c w)
+  stands-live = ap live (z .slots) ∙ live-slots (wordsIn x c w)
+
+  -- the same state where only words of the area changed
+  pub stands-kept : {t : List ℕ} → Same w t (x .area) (length w) → Stands x n c t s
+  stands-kept {t} k =
+      let l = room-laid (z .room) in
+      let e : wordsIn x c t ≡ wordsIn x c w = answered-elements x w c l (z .fits) (z .index) t (k .before) in
+      record {
+        room = subst (Room x n) (sym (k .long)) (z .room);
+        fits = z .fits;
+        slots = z .slots ∙ ap (map slotOf) (sym e);
+        proper = ap (every (slotOk (x .vertices))) e ∙ z .proper;
+        index = answered-complete x w c l (z .fits) (z .index) t (k .before);
+      }
+
+-- what is listed stays where only words of the area changed
+pub kept-area : {x : Index} {w t : List ℕ} → Same w t (x .area) (length w) → Kept x w t
+kept-area k = record { long = k .long; listed = λ j a b. k .before j b }
+
+pub kept-trans : {x : Index} {w t u : List ℕ} → Kept x w t → Kept x t u → Kept x w u
+kept-trans p q = record { long = q .long ∙ p .long; listed = λ j a b. q .listed j a b ∙ p .listed j a b }
