@@ -24,3 +24,4 @@ pub mod List
 pub mod About
 pub mod Short
 pub mod Shared
+pub mod With

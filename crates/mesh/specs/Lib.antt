@@ -22,3 +22,4 @@ pub mod List
 pub mod About
 pub mod Short
 pub mod Shared
+pub mod With

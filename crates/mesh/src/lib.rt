@@ -15,4 +15,5 @@ pub mod shared;
 pub mod short;
 pub mod star;
 pub mod vertex;
+pub mod with;
 pub mod words;

@@ -19,6 +19,20 @@ use Rattle.mesh.proofs.Laws.Star.Chains.{chain-kept, chain-entry}
 
 -- ---- what an entry gives
 
+module _ (x : Index) (s t : List ℕ) {m : ℕ} (l : Laid x m) (same : (j : ℕ) → j < x .area → wordAt t j ≡ wordAt s j) where
+  corner-same : (p : ℕ) → p / 4 < x .room → cornerAt x t p ≡ cornerAt x s p
+  corner-same p h = same (x .slots + p) (omega arith)
+
+  -- all four corners of its slot
+  pub corners-same : (p : ℕ) → p / 4 < x .room → cornersAt x t (p / 4) ≡ cornersAt x s (p / 4)
+  corners-same p h =
+      let e = p / 4 in
+      let a = corner-same (4 * e) (omega arith) in
+      let b = corner-same (4 * e + 1) (omega arith) in
+      let c = corner-same (4 * e + 2) (omega arith) in
+      let d = corner-same (4 * e + 3) (omega arith) in
+      ap₂ (λ (u : ℕ) (us : List ℕ). u ∷ us) a (ap₂ (λ (u : ℕ) (us : List ℕ). u ∷ us) b (ap₂ (λ (u w : ℕ). u ∷ w ∷ []) c d))
+
 module _ (x : Index) (v : ℕ) where
   pub slot-short : (s : List ℕ) (p : ℕ) → length (slotIf x s v p) ≤ 1
   unfolding slotIf
@@ -45,24 +59,13 @@ module _ (x : Index) (v : ℕ) where
       go false = omega arith
 
   module _ (s t : List ℕ) {m : ℕ} (l : Laid x m) (same : (j : ℕ) → j < x .area → wordAt t j ≡ wordAt s j) where
-    corner-same : (p : ℕ) → p / 4 < x .room → cornerAt x t p ≡ cornerAt x s p
-    corner-same p h = same (x .slots + p) (omega arith)
-
     pub slot-same : (p : ℕ) → p / 4 < x .room → slotIf x t v p ≡ slotIf x s v p
     unfolding slotIf
-    slot-same p h = ap (λ (u : ℕ). cond (eqb u v) (p / 4 ∷ []) []) (corner-same p h)
+    slot-same p h = ap (λ (u : ℕ). cond (eqb u v) (p / 4 ∷ []) []) (corner-same x s t l same p h)
 
     pub others-same : (p : ℕ) → p / 4 < x .room → othersIf x t v p ≡ othersIf x s v p
     unfolding othersIf
-    others-same p h =
-        let e = p / 4 in
-        let a = corner-same (4 * e) (omega arith) in
-        let b = corner-same (4 * e + 1) (omega arith) in
-        let c = corner-same (4 * e + 2) (omega arith) in
-        let d = corner-same (4 * e + 3) (omega arith) in
-        let q : cornersAt x t e ≡ cornersAt x s e =
-        ap₂ (λ (u : ℕ) (us : List ℕ). u ∷ us) a (ap₂ (λ (u : ℕ) (us : List ℕ). u ∷ us) b (ap₂ (λ (u w : ℕ). u ∷ w ∷ []) c d)) in
-        ap₂ (λ (u : ℕ) (us : List ℕ). cond (eqb u v) (butFor v us) []) (corner-same p h) q
+    others-same p h = ap₂ (λ (u : ℕ) (us : List ℕ). cond (eqb u v) (butFor v us) []) (corner-same x s t l same p h) (corners-same x s t l same p h)
 
 -- ---- what all give
 
@@ -79,12 +82,12 @@ unfolding gather
 gather-same f g [] h = refl
 gather-same f g (p ∷ ps) h = ap₂ (λ (u v : List ℕ). u ++ v) (h p (mem-here p ps)) (gather-same f g ps (λ q m. h q (mem-there q p ps m)))
 
-gather-short : (f : ℕ → List ℕ) (w : ℕ) (ps : List ℕ) → ((p : ℕ) → length (f p) ≤ w) → length (gather f ps) ≤ length ps * w
+pub gather-short : (f : ℕ → List ℕ) (w : ℕ) (ps : List ℕ) → ((p : ℕ) → length (f p) ≤ w) → length (gather f ps) ≤ length ps * w
 unfolding gather
 gather-short f w [] h = omega arith
 gather-short f w (p ∷ ps) h = omega (arith, length-append (f p) (gather f ps), h p, gather-short f w ps h)
 
-chain-short : (x : Index) (s : List ℕ) (v : ℕ) → length (chainOf x s v) ≤ lengthOf x s v
+pub chain-short : (x : Index) (s : List ℕ) (v : ℕ) → length (chainOf x s v) ≤ lengthOf x s v
 unfolding chainOf
 chain-short x s v = walk-short (x .room) (nextOf x s) (lengthOf x s v) (headOf x s v)
 
