@@ -18,5 +18,6 @@ pub mod MayPair
 pub mod Round
 pub mod Rounds
 pub mod Finish
+pub mod Lengths
 pub mod Passed
 pub mod Entry

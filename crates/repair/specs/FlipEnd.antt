@@ -35,7 +35,7 @@ pub record EndRoom (k g e f m : ℕ) : Type 0 where
   pub few : k ≤ 65536
   pub given : g ≤ 65536
   pub area : 36 * k + 18 * g ≤ m
-  pub surface : (3 * g ≤ f) × (12 * k ≤ f)
+  pub surface : 3 * g ≤ f
   pub elements : 4 * k ≤ e
 
 -- the answer, the elements' buffer and the surface's for nv vertices, the elements ts and the given surface fs

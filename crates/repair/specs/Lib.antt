@@ -17,6 +17,11 @@ pub mod Round
 pub mod Tally
 pub mod Trio
 pub mod FlipLayout
+pub mod FlipTries
+pub mod FlipReplace
+pub mod FlipBegin
+pub mod FlipEdge
 pub mod FlipEnd
+pub mod FlipFitting
 pub mod Finish
 pub mod Fitting

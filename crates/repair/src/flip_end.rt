@@ -27,7 +27,7 @@ ghost use Rattle.repair.specs.Step.{over};
 ghost use Rattle.repair.specs.declared.answer.Answer.{Answer};
 
 // The triple whose three words begin at p.
-fn triple_from(area: &[u32], p: usize) -> Triple
+pub(crate) fn triple_from(area: &[u32], p: usize) -> Triple
     requires { ⌜ p + 3 ≤ length (now area) ⌝ }
     ensures { λ r. ⌜ r ≡ tripleAt (now (area .entry)) p ⌝ }
 {

@@ -1,13 +1,19 @@
-// Passes: `improve` and `smooth`, and what they are made of. specs/ has the definitions of all
-// three passes; of `flip` only parts are here yet.
+// The passes `improve`, `smooth` and `flip`, and what they are made of. specs/ has their definitions.
 pub mod answer;
 mod begin;
 mod best;
 mod candidate;
 mod finish;
+pub mod flip;
+mod flip_begin;
+mod flip_edge;
 mod flip_end;
+mod flip_face;
+mod flip_find;
 mod flip_layout;
+mod flip_replace;
 mod flip_slots;
+mod flip_tries;
 mod float;
 mod gain;
 mod group_move;
@@ -26,3 +32,4 @@ mod row;
 pub mod smooth;
 mod tally;
 mod trial;
+mod tried;

@@ -29,7 +29,7 @@ corners-every q (f ∷ fs) h =
         let j = and-right (q (f .b)) (every q (f .c ∷ [])) i in
         rw (and-left (q (f .a)) (every q (f .b ∷ f .c ∷ [])) e, and-left (q (f .b)) (every q (f .c ∷ [])) i, and-left (q (f .c)) (every q []) j, g) refl
 
-faces-every : (q : ℕ → Bool) (ts : List Tet) → every q (allVertices ts) ≡ true → every (λ f. every q (cornersOf f)) (allFaces ts) ≡ true
+pub faces-every : (q : ℕ → Bool) (ts : List Tet) → every q (allVertices ts) ≡ true → every (λ f. every q (cornersOf f)) (allFaces ts) ≡ true
 unfolding allVertices allFaces
 faces-every q [] h = refl
 faces-every q (t ∷ ts) h =

@@ -32,7 +32,7 @@ use Rattle.repair.proofs.Laws.Flip.Owners.{without-elim, without-intro,
 
 -- ---- the other vertices
 
-mem-append : (x : ℕ) (l r : List ℕ) → mem x (l ++ r) ≡ (mem x l || mem x r)
+pub mem-append : (x : ℕ) (l r : List ℕ) → mem x (l ++ r) ≡ (mem x l || mem x r)
 mem-append x [] r = refl
 mem-append x (y ∷ l) r = elim (split (eqb x y)) [ inl h ↦ rw h refl | inr h ↦ rw h (mem-append x l r) ]
 
@@ -45,7 +45,7 @@ besides-intro σ (u ∷ ts) t x m h o =
       | inr q ↦ or-right (mem x (without σ (verticesOf u))) (besides-intro σ ts t x q h o)
     ]
 
-besides-out : (σ : List ℕ) (ts : List Tet) (x : ℕ) → mem x (besides σ ts) ≡ true → mem x σ ≡ false
+pub besides-out : (σ : List ℕ) (ts : List Tet) (x : ℕ) → mem x (besides σ ts) ≡ true → mem x σ ≡ false
 unfolding besides
 besides-out σ [] x m = absurd (mem-nil x m)
 besides-out σ (t ∷ ts) x m =
@@ -61,7 +61,7 @@ unfolding elem
 elem-mem x [] = refl
 elem-mem x (y ∷ l) = ap (λ t. eqb x y || t) (elem-mem x l)
 
-set-mem : (x : ℕ) (l : List ℕ) → mem x (unique eqb (sort leb l)) ≡ mem x l
+pub set-mem : (x : ℕ) (l : List ℕ) → mem x (unique eqb (sort leb l)) ≡ mem x l
 set-mem x l =
     sym (elem-mem x (unique eqb (sort leb l))) ∙ elem-unique eqb eqb-true x (sort leb l) ∙ elem-mem x (sort leb l) ∙ sort-mem x l
 
@@ -71,17 +71,17 @@ leb-total a b h = let l = leb-false a b h in le-leb b a (omega arith)
 leb-anti : (a b : ℕ) → leb a b ≡ true → leb b a ≡ true → a ≡ b
 leb-anti a b h k = let l = leb-true a b h in let m = leb-true b a k in omega arith
 
-set-rises : (l : List ℕ) → ordered (before leb) (unique eqb (sort leb l)) ≡ true
+pub set-rises : (l : List ℕ) → ordered (before leb) (unique eqb (sort leb l)) ≡ true
 set-rises l = unique-rising eqb eqb-true (λ a. eq-eqb a a refl) leb leb-anti (sort leb l) (ordered-sort leb leb-total l)
 
-three-rise : (u v w : ℕ) → ordered (before leb) (u ∷ v ∷ w ∷ []) ≡ true → Nodup (u ∷ v ∷ w ∷ [])
+pub three-rise : (u v w : ℕ) → ordered (before leb) (u ∷ v ∷ w ∷ []) ≡ true → Nodup (u ∷ v ∷ w ∷ [])
 unfolding ordered headed before
 three-rise u v w h =
     let uv = leb-false v u (not-true (leb v u) (and-fst (not (leb v u)) _ h)) in
     let vw = leb-false w v (not-true (leb w v) (and-fst (not (leb w v)) _ (and-snd (not (leb v u)) _ h))) in
     (out u v (w ∷ []) (λ e. omega arith) (out u w [] (λ e. omega arith) refl), (out v w [] (λ e. omega arith) refl, (refl, tt)))
 
-three-of : (l : List ℕ) → length l ≡ 3 → l ≡ getD l 0 0 ∷ getD l 1 0 ∷ getD l 2 0 ∷ []
+pub three-of : (l : List ℕ) → length l ≡ 3 → l ≡ getD l 0 0 ∷ getD l 1 0 ∷ getD l 2 0 ∷ []
 three-of [] h = absurd (omega arith)
 three-of (x ∷ []) h = absurd (omega arith)
 three-of (x ∷ y ∷ []) h = absurd (omega arith)

@@ -34,7 +34,7 @@ use Rattle.repair.proofs.Laws.Finish.Ended.{good-answer, good-words, ba
 
 -- ---- by the number of the boundary
 
-good-end : (fs : List Triple) (ts : List Tet) → eqb (boundaryNumber ts) 0 ≡ true → endNumber fs ts ≡ cond (sameTriples (sortedKeys (boundaryOf ts)) (sortedKeys fs)) 0 23
+pub good-end : (fs : List Triple) (ts : List Tet) → eqb (boundaryNumber ts) 0 ≡ true → endNumber fs ts ≡ cond (sameTriples (sortedKeys (boundaryOf ts)) (sortedKeys fs)) 0 23
 unfolding endNumber
 good-end fs ts e = rw e refl
 

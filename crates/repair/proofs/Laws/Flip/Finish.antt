@@ -1,7 +1,7 @@
 -- The end of `flip` on buffers: done with the new elements and surface, or refused and the buffers as they were. Assumes nothing.
-use mathlib.Core.Path.{_≡_, refl, sym, ap, ap₂, _∙_}
+use mathlib.Core.Path.{_≡_, refl, sym, ap, _∙_}
 use mathlib.Core.Logic.{inl, inr}
-use mathlib.Core.Bool.{true, cond}
+use mathlib.Core.Bool.{Bool, true, false, cond}
 use mathlib.Core.List.{List}
 use Prim.Native.Nat.{ℕ, _+_, _*_, _≤_}
 use native.Mathlib.Omega.{arith}
@@ -10,32 +10,33 @@ use lib.Dec.{eqb}
 use lib.ListN.{length, take, drop}
 use Rattle.mesh.specs.declared.element.Tet.{Tet}
 use Rattle.mesh.specs.declared.element.Triple.{Triple}
-use Rattle.mesh.specs.declared.intake.Sizes.{Sizes}
 use Rattle.mesh.specs.declared.boundary.Outcome.{Outcome}
 use Rattle.mesh.specs.declared.boundary.Outcome.the-variants.{Surface, Refused}
 use Rattle.mesh.specs.Element.{tets}
 use Rattle.mesh.specs.Boundary.{boundaryNumber, boundaryOf}
-use Rattle.mesh.specs.Surface.{triplesOf}
 use Rattle.mesh.specs.Manifold.{triples}
 use Rattle.mesh.proofs.Laws.Complex.Sets.{split}
-use Rattle.mesh.proofs.Laws.Boundary.Whole.{triples-few}
 use Rattle.mesh.proofs.Laws.Star.Scan.{length-tets}
 use Rattle.repair.specs.declared.answer.Answer.{Answer}
 use Rattle.repair.specs.declared.answer.Answer.the-variants as answers
-use Rattle.repair.specs.Flip.{endNumber}
+use Rattle.repair.specs.Flip.{sortedKeys, sameTriples, endNumber}
 use Rattle.repair.specs.Step.{elementWords, tripleWords, over}
 use Rattle.repair.specs.FlipEnd.{SurfaceEnded, EndRoom, flipEnd}
 use Rattle.repair.proofs.Laws.Site.Pass.{elements-front}
-use Rattle.repair.proofs.Laws.Finish.Ended.{good-answer}
 use Rattle.repair.proofs.Laws.Finish.Whole.{refused-is, taken-zero}
-use Rattle.repair.proofs.Laws.Flip.Ended.{bad-end}
+use Rattle.repair.proofs.Laws.Flip.Keys.{length-triples}
+use Rattle.repair.proofs.Laws.Flip.Surface.{same-many, sorted-many}
+use Rattle.repair.proofs.Laws.Flip.Ended.{good-end, bad-end}
 
--- a surface has no more than four triples an element
-few-triples : (fs : List Triple) (k : ℕ) (s : List ℕ) → endNumber fs (tets k s) ≡ 0 → length (boundaryOf (tets k s)) ≤ 4 * k
-few-triples fs k s h =
-    elim (split (eqb (boundaryNumber (tets k s)) 0)) [
-      | inl q ↦ omega (arith, triples-few k s, ap triplesOf (good-answer (tets k s) q))
-      | inr q ↦ absurd (eqb-false (boundaryNumber (tets k s)) 0 q (sym (bad-end fs (tets k s) q) ∙ h))
+-- a surface with the keys of those given has as many triples
+same-triples : (fs : List Triple) (ts : List Tet) → endNumber fs ts ≡ 0 → length (boundaryOf ts) ≡ length fs
+same-triples fs ts h =
+    elim (split (eqb (boundaryNumber ts) 0)) [
+      | inl q ↦ elim (split (sameTriples (sortedKeys (boundaryOf ts)) (sortedKeys fs))) [
+        | inl y ↦ sym (sorted-many (boundaryOf ts)) ∙ same-many (sortedKeys (boundaryOf ts)) (sortedKeys fs) y ∙ sorted-many fs
+        | inr y ↦ absurd (let z : cond false 0 23 ≡ 0 = ap (λ (b : Bool). cond b 0 23) (sym y) ∙ sym (good-end fs ts q) ∙ h in omega arith)
+      ]
+      | inr q ↦ absurd (eqb-false (boundaryNumber ts) 0 q (sym (bad-end fs ts q) ∙ h))
     ]
 
 module _ {k g : ℕ} (e f s₀ : List ℕ) {s : List ℕ} {r : Outcome} (room : EndRoom k g (length e) (length f) (length s₀)) (E : SurfaceEnded k g f s₀ s r) where
@@ -46,13 +47,13 @@ module _ {k g : ℕ} (e f s₀ : List ℕ) {s : List ℕ} {r : Outcome} (room : 
     count-is : c ≡ length (boundaryOf (tets k s₀))
     count-is = taken-zero (endNumber (triples g f) (tets k s₀)) (length (boundaryOf (tets k s₀))) c (sym hc ∙ E .answer) .1
 
-    few : c ≤ 4 * k
-    few = let n = few-triples (triples g f) k s₀ zero-end in let d = count-is in omega arith
+    many : c ≡ g
+    many = count-is ∙ same-triples (triples g f) (tets k s₀) zero-end ∙ length-triples g f
 
     -- the surface fits
     pub commit-room : length s ≡ length s₀ → (k ≤ 65536) × (c ≤ 262144) × (4 * k + 3 * c ≤ length s) × (4 * k ≤ length e) × (3 * c ≤ length f)
     commit-room l =
-        let n = few in let a = room .few in let b = room .area in let d = room .surface .1 in
+        let n = many in let a = room .given in let b = room .area in let d = room .surface in
         (room .few, omega arith, omega arith, room .elements, omega arith)
 
     pub flip-done : (count nv : ℕ) (e′ f′ : List ℕ) → e′ ≡ over (take (4 * k) s) e → f′ ≡ over (take (3 * c) (drop (4 * k) s)) f

@@ -31,7 +31,7 @@ use Rattle.repair.proofs.Laws.Flip.Replace.{AsGood, two-to-three, three
 
 -- ---- vertices besides σ
 
-keep-both : (p : ℕ → Bool) (l : List ℕ) → length (keep p l) + length (keep (λ x. not (p x)) l) ≡ length l
+pub keep-both : {A : Type 0} (p : A → Bool) (l : List A) → length (keep p l) + length (keep (λ x. not (p x)) l) ≡ length l
 keep-both p [] = refl
 keep-both p (x ∷ l) = let r = keep-both p l in elim (split (p x)) [ inl h ↦ rw h (omega arith) | inr h ↦ rw h (omega arith) ]
 

@@ -6,7 +6,7 @@ use mathlib.Core.List.{List, [], _∷_, map}
 use Prim.Native.Nat.{ℕ, suc, _+_, _*_, _≤_, _<_}
 use native.Mathlib.Omega.{arith}
 use borrow.Author.Tests.{le-leb}
-use lib.ListN.{length, take, drop}
+use lib.ListN.{length, drop}
 use lib.Seq.{getD-take, getD-drop, paste}
 use Rattle.mesh.specs.declared.element.Triple.{Triple}
 use Rattle.mesh.specs.Words.{wordAt, inside, copied}
@@ -26,15 +26,18 @@ use Rattle.repair.proofs.Laws.Flip.Keys.{triples-words, length-triples}
 
 -- ---- lists that are the same have one length
 
-same-many : (l m : List Triple) → sameTriples l m ≡ true → length l ≡ length m
+pub same-many : (l m : List Triple) → sameTriples l m ≡ true → length l ≡ length m
 unfolding sameTriples
 same-many [] [] h = refl
 same-many [] (g ∷ m) h = clash false h refl
 same-many (f ∷ l) [] h = clash false h refl
 same-many (f ∷ l) (g ∷ m) h = ap suc (same-many l m (and-snd (sameTriple f g) (sameTriples l m) h))
 
+pub sorted-many : (fs : List Triple) → length (sortedKeys fs) ≡ length fs
+sorted-many fs = length-sort leTriple (map keyOf fs) ∙ length-map keyOf fs
+
 length-keys : (c : ℕ) (s : List ℕ) → length (sortedKeys (triples c s)) ≡ c
-length-keys c s = length-sort leTriple (map keyOf (triples c s)) ∙ length-map keyOf (triples c s) ∙ length-triples c s
+length-keys c s = sorted-many (triples c s) ∙ length-triples c s
 
 -- other counts: other keys
 pub keys-differ : (c g : ℕ) (s f : List ℕ) → (c ≡ g → ⊥) → false ≡ sameTriples (sortedKeys (triples c s)) (sortedKeys (triples g f))

@@ -141,15 +141,15 @@ tets-last (suc c) p w =
     ∙ sym (ap (λ (l : List Tet). l ++ (elementAt w (p + 4 * suc c) ∷ [])) (next c p w))
 
 -- where the area begins does not matter to what is hung
-abbrev area-at : Index → ℕ → Index
+abbrev pub area-at : Index → ℕ → Index
 area-at x a = record { slots = x .slots; nexts = x .nexts; heads = x .heads; lengths = x .lengths; area = a; room = x .room; vertices = x .vertices }
 
-hung-at : (x : Index) (a k p : ℕ) (w : List ℕ) → hungAll (area-at x a) k p w ≡ hungAll x k p w
+pub hung-at : (x : Index) (a k p : ℕ) (w : List ℕ) → hungAll (area-at x a) k p w ≡ hungAll x k p w
 unfolding hungAll hung pushed setChain
 hung-at x a zero p w = refl
 hung-at x a (suc k) p w = hung-at x a k (p + 1) (hung x p w)
 
-appended-is : (x : Index) (i j : ℕ) (w : List ℕ) → Laid x (length w) → i ≤ j → j ≤ x .room → appended x i j w ≡ hungAll x (4 * j - 4 * i) (4 * i) w
+pub appended-is : (x : Index) (i j : ℕ) (w : List ℕ) → Laid x (length w) → i ≤ j → j ≤ x .room → appended x i j w ≡ hungAll x (4 * j - 4 * i) (4 * i) w
 unfolding appended hasSlots
 appended-is x i j w l hi hj = rw (laid-yes x (length w) l, le-leb i j hi, le-leb j (x .room) hj)
 
@@ -161,7 +161,7 @@ every-append : (p : Tet → Bool) (l m : List Tet) → every p l ≡ true → ev
 every-append p [] m h g = g
 every-append p (a ∷ l) m h g = rw (and-fst (p a) (every p l) h) (every-append p l m (and-snd (p a) (every p l) h) g)
 
-slot-there : (t : Tet) → gone t ≡ false → slotOf t ≡ some t
+pub slot-there : (t : Tet) → gone t ≡ false → slotOf t ≡ some t
 unfolding slotOf
 slot-there t h = rw h refl
 

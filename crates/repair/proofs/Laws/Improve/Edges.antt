@@ -94,7 +94,7 @@ four-joins n t i = by (t .a) (t .b) (t .c) (t .d) i
         )
         refl
 
-edges-join : (n : ℕ) (ts : List Tet) → ((t : Tet) → List·Memᴰ t ts → IsElement n (verticesOf t)) → every (joins n) (allEdges ts) ≡ true
+pub edges-join : (n : ℕ) (ts : List Tet) → ((t : Tet) → List·Memᴰ t ts → IsElement n (verticesOf t)) → every (joins n) (allEdges ts) ≡ true
 unfolding allEdges
 edges-join n [] h = refl
 edges-join n (t ∷ ts) h = every-append (joins n) (edgesOf t) (allEdges ts) (four-joins n t (h t (List·Memᴰ·head refl))) (edges-join n ts (λ u k. h u (List·Memᴰ·tail k)))

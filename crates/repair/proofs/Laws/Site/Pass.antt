@@ -1,13 +1,13 @@
 -- The pass on whole buffers: intake, all groups, and what the buffers hold afterwards. Assumes nothing.
 use mathlib.Core.Path.{_≡_, refl, sym, ap, ap₂, subst, subst₂, _∙_}
 use mathlib.Core.Logic.{_≢_}
-use mathlib.Core.Bool.{Bool, true, false, cond, _||_}
+use mathlib.Core.Bool.{true, cond}
 use mathlib.Core.List.{List, [], _∷_, _++_}
 use mathlib.Core.Option.{Option, none, some}
 use Prim.Native.Nat.{ℕ, zero, suc, _+_, _*_, _≤_}
 use native.Mathlib.Omega.{arith}
-use borrow.Author.Tests.{ltb-false, ne-eqb}
-use lib.Dec.{eqb, ltb}
+use borrow.Author.Tests.{ne-eqb}
+use lib.Dec.{eqb}
 use lib.Ieee.{Float, lt}
 use lib.ListN.{length, take, drop, take-append-drop}
 use lib.Seq.{length-take-le}
@@ -16,15 +16,12 @@ use Rattle.geometry.specs.declared.bounds.Options.{Options}
 use Rattle.geometry.specs.declared.field.Field.{Field}
 use Rattle.geometry.specs.Literals.{fifteenHundredths}
 use Rattle.mesh.specs.declared.intake.Sizes.{Sizes}
-use Rattle.mesh.specs.declared.intake.Lengths.{Lengths}
 use Rattle.mesh.specs.declared.star.Index.{Index}
 use Rattle.mesh.specs.Words.{pointsOf}
 use Rattle.mesh.specs.Tests.{every}
 use Rattle.mesh.specs.Element.{tets}
 use Rattle.mesh.specs.Group.{groups}
-use Rattle.mesh.specs.Intake.{tooMany, tooShort, wellNumbered, givenOf, intake}
-use Rattle.mesh.proofs.Laws.Intake.Chains.{neither-left, neither-right}
-use Rattle.mesh.proofs.Laws.Intake.Room.{counts-few, slices-hold}
+use Rattle.mesh.specs.Intake.{wellNumbered, givenOf, intake}
 use Rattle.mesh.proofs.Laws.Intake.Reads.{length-tets, length-points}
 use Rattle.repair.specs.declared.answer.Answer.{Answer}
 use Rattle.repair.specs.declared.answer.Answer.the-variants.{Done, Refused}
@@ -35,10 +32,11 @@ use Rattle.repair.specs.Step as Step
 use Rattle.repair.specs.Step.{Call, Pass, triplesOf, meshOf, floatsOf, elementWords, tripleWords, over, committed, given, lengthsOf, resultOf, step}
 use Rattle.repair.specs.Site.{stateOf, Turned, meshFor}
 use Rattle.repair.proofs.Laws.Improve.Intake.{Passed, intake-passed}
+use Rattle.repair.proofs.Laws.Lengths.{LongEnough, long-enough}
 
 -- ---- buffers and their values
 
-floats-front : (n : ℕ) (s : List Float) → 3 * n ≤ length s → floatsOf (pointsOf n s) ≡ take (3 * n) s
+pub floats-front : (n : ℕ) (s : List Float) → 3 * n ≤ length s → floatsOf (pointsOf n s) ≡ take (3 * n) s
 unfolding pointsOf floatsOf
 floats-front zero s h = refl
 floats-front (suc n) [] h = absurd (omega (arith, h))
@@ -75,49 +73,10 @@ length-triples zero s = refl
 length-triples (suc n) s = ap suc (length-triples n (drop 3 s))
 
 -- a front put over a buffer that is the same behind it
-over-is : {A : Type 0} (front old new : List A) (k : ℕ) → k ≤ length new → front ≡ take k new → drop k new ≡ drop k old → over front old ≡ new
+pub over-is : {A : Type 0} (front old new : List A) (k : ℕ) → k ≤ length new → front ≡ take k new → drop k new ≡ drop k old → over front old ≡ new
 over-is {A} front old new k h e f =
     let l : length front ≡ k = ap length e ∙ length-take-le k new h in
     ap₂ (λ (u v : List A). u ++ v) e (ap (λ i. drop i old) l ∙ sym f) ∙ take-append-drop k new
-
--- ---- what intake's 0 says of the lengths
-
--- counts within their limits, and slices long enough
-pub record Fitting (s : Sizes) (l : Lengths) : Type 0 where
-  pub vertices : s .vertices ≤ 4096
-  pub elements : s .elements ≤ 16384
-  pub parameters : 3 * s .vertices ≤ l .parameters
-  pub points : 3 * s .vertices ≤ l .points
-  pub masks : s .vertices ≤ l .masks
-  pub slots : 4 * s .elements ≤ l .elements
-  pub surface : 3 * s .triples ≤ l .surface
-  pub words : 256 * s .elements + 32 * s .vertices + 1024 ≤ l .words
-
-fitting : (s : Sizes) (l : Lengths) → (tooMany s || tooShort s l) ≡ false → Fitting s l
-fitting s l h =
-    let t₁ = ltb (l .parameters) (3 * s .vertices) in
-    let t₂ = ltb (l .points) (3 * s .vertices) in
-    let t₃ = ltb (l .masks) (s .vertices) in
-    let t₄ = ltb (l .surface) (3 * (4 * s .elements)) in
-    let t₅ = ltb (l .elements) (4 * (2 * s .elements)) in
-    let t₆ = ltb (l .words) (256 * s .elements + 32 * s .vertices + 1024) in
-    let t₇ = ltb (l .floats) (16 * s .vertices) in
-    let h₁ = neither-right (tooMany s) (tooShort s l) h in
-    let h₂ = neither-right t₁ (t₂ || (t₃ || (t₄ || (t₅ || (t₆ || t₇))))) h₁ in
-    let h₃ = neither-right t₂ (t₃ || (t₄ || (t₅ || (t₆ || t₇)))) h₂ in
-    let h₆ = neither-right t₅ (t₆ || t₇) (neither-right t₄ (t₅ || (t₆ || t₇)) (neither-right t₃ (t₄ || (t₅ || (t₆ || t₇))) h₃)) in
-    let few = counts-few s (neither-left (tooMany s) (tooShort s l) h) in
-    let hold = slices-hold s l h in
-    record {
-      vertices = few .0;
-      elements = few .1;
-      parameters = ltb-false (l .parameters) (3 * s .vertices) (neither-left t₁ (t₂ || (t₃ || (t₄ || (t₅ || (t₆ || t₇))))) h₁);
-      points = ltb-false (l .points) (3 * s .vertices) (neither-left t₂ (t₃ || (t₄ || (t₅ || (t₆ || t₇)))) h₂);
-      masks = ltb-false (l .masks) (s .vertices) (neither-left t₃ (t₄ || (t₅ || (t₆ || t₇))) h₃);
-      slots = hold .0;
-      surface = hold .1;
-      words = ltb-false (l .words) (256 * s .elements + 32 * s .vertices + 1024) (neither-left t₆ t₇ h₆);
-    }
 
 -- ---- the mesh beside the state
 
@@ -181,12 +140,9 @@ module _ (sizes : Sizes) (o : Options) (count : ℕ) (fields : List Field) (R : 
       passed : Passed (given (lengthsOf call (buffers P Q)) call (buffers P Q))
       passed = intake-passed (given (lengthsOf call (buffers P Q)) call (buffers P Q)) (sym number-is ∙ z)
 
-      pub fits : Fitting sizes (lengthsOf call (buffers P Q))
+      pub fits : LongEnough sizes (lengthsOf call (buffers P Q))
       unfolding given
-      fits = fitting sizes (lengthsOf call (buffers P Q)) (neither (passed .few) (passed .long))
-        where
-          neither : {a b : Bool} → a ≡ false → b ≡ false → (a || b) ≡ false
-          neither p q = rw (p, q)
+      fits = long-enough sizes (lengthsOf call (buffers P Q)) (passed .few) (passed .long)
 
       pub numbered : every (wellNumbered (sizes .vertices)) (tets (sizes .elements) els) ≡ true
       unfolding given meshOf
@@ -235,8 +191,10 @@ module _ (sizes : Sizes) (o : Options) (count : ℕ) (fields : List Field) (R : 
             let a = floats-are P P′ (f .parameters) (T′ .long .0) (T′ .parameters) in
             let b = floats-are Q Q′ (f .points) (T′ .long .1) (T′ .points) in
             let c = over-is (take (sizes .vertices) masks) masks masks (sizes .vertices) (f .masks) refl refl in
-            let d = over-is (elementWords (tets (sizes .elements) els)) els els (4 * sizes .elements) (f .slots) (elements-front (sizes .elements) els (f .slots)) refl in
-            let g = over-is (tripleWords (triplesOf (sizes .triples) surface)) surface surface (3 * sizes .triples) (f .surface) (triples-front (sizes .triples) surface (f .surface)) refl in
+            let e₁ : 4 * sizes .elements ≤ length els = omega (arith, f .slots) in
+            let e₂ : 3 * sizes .triples ≤ length surface = omega (arith, f .triples, f .surface) in
+            let d = over-is (elementWords (tets (sizes .elements) els)) els els (4 * sizes .elements) e₁ (elements-front (sizes .elements) els e₁) refl in
+            let g = over-is (tripleWords (triplesOf (sizes .triples) surface)) surface surface (3 * sizes .triples) e₂ (triples-front (sizes .triples) surface e₂) refl in
             λ j. record { parameters = a j; points = b j; masks = c j; elements = d j; surface = g j; sizes = sizes-are j }
 
         pub pass-done : _≡_ {A = Answer × Step.State} (Done moved sizes, buffers P′ Q′) (step call (buffers P Q))

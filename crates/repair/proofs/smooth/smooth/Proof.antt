@@ -38,7 +38,7 @@ prepare-requires c κs =
     let R = regionsOf (a .listed) (a .regions .now) in
     let z = c .before .before .if1 .left in
     let f = fits (a .sizes) (a .o) (a .count) (a .fields) R (a .parameters .now) (a .points .now) (a .masks .now) (a .elements .now) (a .surface .now) (a .work .now) (a .floats .now) (c .before .before .before .before .before .intake .result) _ (c .before .before .before .before .before .before .before .before .before .before .before .before .clear-floats .kept .0) (c .before .before .before .before .before .intake .ensures .0) z in
-    ((f .vertices, f .elements, omega (arith, f .words, c .before .before .before .before .before .intake .kept .1 .1 .1 .1 .1 .1 .1 .1 .1 .0)), (f .slots, numbered (a .sizes) (a .o) (a .count) (a .fields) R (a .parameters .now) (a .points .now) (a .masks .now) (a .elements .now) (a .surface .now) (a .work .now) (a .floats .now) (c .before .before .before .before .before .intake .result) _ (c .before .before .before .before .before .before .before .before .before .before .before .before .clear-floats .kept .0) (c .before .before .before .before .before .intake .ensures .0) z))
+    ((f .vertices, f .elements, omega (arith, f .words, c .before .before .before .before .before .intake .kept .1 .1 .1 .1 .1 .1 .1 .1 .1 .0)), (omega (arith, f .slots), numbered (a .sizes) (a .o) (a .count) (a .fields) R (a .parameters .now) (a .points .now) (a .masks .now) (a .elements .now) (a .surface .now) (a .work .now) (a .floats .now) (c .before .before .before .before .before .intake .result) _ (c .before .before .before .before .before .before .before .before .before .before .before .before .clear-floats .kept .0) (c .before .before .before .before .before .intake .ensures .0) z))
 
 smooth-groups-requires : tie.Need-smooth-groups-requires
 smooth-groups-requires c κs =

@@ -1,0 +1,116 @@
+-- `repair::flip::flip` meets its contract: refused by intake, or made. Assumes nothing.
+use borrow.Author.Needs.{needs}
+use mathlib.Core.Path.{refl, sym, ap, _∙_}
+use mathlib.Core.Option.{none}
+use lib.ListN.{length}
+use Rattle.mesh.specs.Words.{zeroWords}
+use Rattle.repair.specs.Step.{State, Call, Pass}
+use Rattle.repair.proofs.Laws.Entry.{call-refused, call-made, fitting}
+use Rattle.repair.proofs.Laws.Flip.Passed.{flip-fitting, flip-result, flip-finished}
+use Rattle.repair.proofs.flip.flip.Statement.{statement}
+use Rattle.repair.proofs.flip.flip.Tie as tie
+
+intake-requires : tie.Need-intake-requires
+intake-requires c κs = search needs
+
+clear-floats-requires : tie.Need-clear-floats-requires
+clear-floats-requires c κs = search needs
+
+same-length : tie.Need-same-length
+same-length c = search needs
+
+same-length-2 : tie.Need-same-length-2
+same-length-2 c = search needs
+
+same-length-3 : tie.Need-same-length-3
+same-length-3 c = search needs
+
+same-length-4 : tie.Need-same-length-4
+same-length-4 c = search needs
+
+same-length-5 : tie.Need-same-length-5
+same-length-5 c = search needs
+
+same-length-6 : tie.Need-same-length-6
+same-length-6 c = search needs
+
+same-length-7 : tie.Need-same-length-7
+same-length-7 c = search needs
+
+returns : tie.Need-returns
+returns c =
+    let a = (c .before .before .before .before .before .before .before .before .before .before .before .before .before .before .before .before .before .before .before .before .before .before .args) in
+    let k : Call = record { pass = Pass.flip; options = a .o; fields = a .fields; count = a .count; regions = none; words = length (a .work .now); floats = length (a .floats .now) } in
+    let s : State = record { parameters = a .parameters .now; points = a .points .now; masks = a .masks .now; elements = a .elements .now; surface = a .surface .now; sizes = a .sizes } in
+    (call-refused k s (a .work .now) (a .floats .now) refl refl (c .before .before .before .before .before .before .before .intake .result) (c .before .before .before .before .before .before .before .intake .ensures .0) (c .before .before .before .before .if1 .taken), (c .before .before .before .before .before .before .before .intake .ensures .1, c .before .before .clear-floats .ensures))
+
+flip-all-requires : tie.Need-flip-all-requires
+flip-all-requires c κs =
+    let a = (c .before .before .before .before .before .before .before .before .before .before .before .before .before .before .before .before .before .before .before .before .before .before .args) in
+    let k : Call = record { pass = Pass.flip; options = a .o; fields = a .fields; count = a .count; regions = none; words = length (a .work .now); floats = length (a .floats .now) } in
+    let s : State = record { parameters = a .parameters .now; points = a .points .now; masks = a .masks .now; elements = a .elements .now; surface = a .surface .now; sizes = a .sizes } in
+    flip-fitting k s (a .work .now) (a .floats .now) refl refl (c .before .before .before .before .before .before .before .intake .result) (c .before .before .before .before .before .before .before .intake .ensures .0) (c .before .before .before .before .if1 .left) _ (c .before .before .before .before .before .before .before .intake .ensures .1)
+
+clear-requires : tie.Need-clear-requires
+clear-requires c κs = search needs
+
+clear-floats-requires-2 : tie.Need-clear-floats-requires-2
+clear-floats-requires-2 c κs = search needs
+
+same-length-8 : tie.Need-same-length-8
+same-length-8 c = search needs
+
+same-length-9 : tie.Need-same-length-9
+same-length-9 c = search needs
+
+same-length-10 : tie.Need-same-length-10
+same-length-10 c = search needs
+
+same-length-11 : tie.Need-same-length-11
+same-length-11 c = search needs
+
+same-length-12 : tie.Need-same-length-12
+same-length-12 c = search needs
+
+same-length-13 : tie.Need-same-length-13
+same-length-13 c = search needs
+
+same-length-14 : tie.Need-same-length-14
+same-length-14 c = search needs
+
+returns-2 : tie.Need-returns-2
+returns-2 c =
+    let a = (c .before .before .before .before .before .before .before .before .before .before .before .before .before .before .before .before .before .before .before .before .before .before .before .before .before .before .before .before .before .before .before .before .before .before .before .before .before .args) in
+    let k : Call = record { pass = Pass.flip; options = a .o; fields = a .fields; count = a .count; regions = none; words = length (a .work .now); floats = length (a .floats .now) } in
+    let s : State = record { parameters = a .parameters .now; points = a .points .now; masks = a .masks .now; elements = a .elements .now; surface = a .surface .now; sizes = a .sizes } in
+    let f = fitting k s (a .work .now) (a .floats .now) refl refl (c .before .before .before .before .before .before .before .before .before .before .before .before .before .before .before .before .before .before .before .before .before .before .intake .result) (c .before .before .before .before .before .before .before .before .before .before .before .before .before .before .before .before .before .before .before .before .before .before .intake .ensures .0) (c .before .before .before .before .before .before .before .before .before .before .before .before .before .before .before .before .before .before .before .if1 .left) _ (c .before .before .before .before .before .before .before .before .before .before .before .before .before .before .before .before .before .before .before .before .before .before .intake .ensures .1) in (
+      flip-finished (a .o) s _ _ f (c .before .before .before .before .before .before .before .before .before .before .before .before .before .before .flip-all .result) _ _ (c .before .before .before .before .before .before .before .before .before .before .before .before .before .before .flip-all .ensures) ∙ flip-result k s refl
+          ∙ sym (call-made k s (a .work .now) (a .floats .now) refl refl (c .before .before .before .before .before .before .before .before .before .before .before .before .before .before .before .before .before .before .before .before .before .before .intake .result) (c .before .before .before .before .before .before .before .before .before .before .before .before .before .before .before .before .before .before .before .before .before .before .intake .ensures .0) (c .before .before .before .before .before .before .before .before .before .before .before .before .before .before .before .before .before .before .before .if1 .left)),
+      (c .before .before .before .before .before .before .clear .ensures ∙ ap zeroWords (c .before .before .before .before .before .before .before .before .before .before .before .before .before .before .flip-all .kept .1 .1 .1 .1 .0 ∙ c .before .before .before .before .before .before .before .before .before .before .before .before .before .before .before .before .before .before .before .before .before .before .intake .kept .1 .1 .1 .1 .1 .1 .1 .1 .1 .0), c .before .before .clear-floats2 .ensures),
+    )
+
+pub flip-spec : {M : Type 1} → statement M
+flip-spec =
+    tie.close
+    (tie.spec
+    intake-requires
+    clear-floats-requires
+    same-length
+    same-length-2
+    same-length-3
+    same-length-4
+    same-length-5
+    same-length-6
+    same-length-7
+    returns
+    flip-all-requires
+    clear-requires
+    clear-floats-requires-2
+    same-length-8
+    same-length-9
+    same-length-10
+    same-length-11
+    same-length-12
+    same-length-13
+    same-length-14
+    returns-2)

@@ -1,0 +1,90 @@
+// `flip`: two-to-three over shared faces, then three-to-two over edges, then the elements that are left and their boundary.
+use crate::answer::Answer;
+use crate::flip_begin::begin_flip;
+use crate::flip_end::finish_flip;
+use crate::flip_layout::flip_layout;
+use crate::flip_tries::try_edges;
+use crate::flip_tries::try_faces;
+use geometry::bounds::Options;
+use geometry::field::Field;
+use mesh::about::live_elements;
+use mesh::intake::Sizes;
+use mesh::intake::intake;
+use mesh::words::clear;
+use mesh::words::clear_floats;
+ghost use mathlib.Core.Path.{_≡_};
+ghost use mathlib.Core.List.{List};
+ghost use mathlib.Core.Option.{none};
+ghost use Prim.Native.Nat.{ℕ};
+ghost use lib.ListN.{length};
+ghost use Rattle.mesh.specs.Words.{zeroWords, zeroFloats};
+ghost use Rattle.repair.specs.declared.answer.Answer.{Answer};
+ghost use Rattle.repair.specs.Finish.{sizesAfter};
+ghost use Rattle.repair.specs.Step.{State, Pass, step};
+ghost use Rattle.repair.specs.FlipFitting.{FlipFitting, flipWhole};
+
+// The pass on a mesh that passed intake.
+fn flip_all(
+    sizes: Sizes,
+    points: &[f64],
+    elements: &mut [u32],
+    surface: &mut [u32],
+    work: &mut [u32],
+) -> Answer
+    requires { ⌜ FlipFitting sizes (now elements) (now surface) (now work) ⌝ }
+    ensures { λ r. ⌜ _≡_ {A = Answer × List ℕ × List ℕ} (r, now (elements .exit), now (surface .exit))
+        (flipWhole sizes (now (points .entry)) (now (elements .entry)) (now (surface .entry))) ⌝ }
+{
+    let n = sizes.elements as u32;
+    let x = flip_layout(sizes.vertices as u32, n);
+    let l = begin_flip(work, x, n, points, elements);
+    let t = try_faces(work, x, n, l.faces, points);
+    let u = try_edges(work, x, n, l.bad, l.edges, t, points);
+    let k = live_elements(work, x, u.slots as usize);
+    let a = x.area;
+    finish_flip(sizes, u.flips, k, elements, surface, &mut work[a..])
+}
+
+// `flip` on whole buffers: intake, then the pass. Both work slices may hold anything before, and are all zeros afterwards.
+pub fn flip(
+    sizes: Sizes,
+    o: Options,
+    count: u32,
+    fields: [Field; 8],
+    parameters: &mut [f64],
+    points: &mut [f64],
+    masks: &mut [u32],
+    elements: &mut [u32],
+    surface: &mut [u32],
+    work: &mut [u32],
+    floats: &mut [f64],
+) -> Answer
+    ensures { λ r. ⌜ _≡_ {A = Answer × State}
+        (r, record { parameters = now (parameters .exit); points = now (points .exit); masks = now (masks .exit); elements = now (elements .exit); surface = now (surface .exit); sizes = sizesAfter r sizes })
+        (step (record { pass = Pass.flip; options = o; fields = fields; count = count; regions = none; words = length (now (work .entry)); floats = length (now (floats .entry)) })
+        (record { parameters = now (parameters .entry); points = now (points .entry); masks = now (masks .entry); elements = now (elements .entry); surface = now (surface .entry); sizes = sizes })) ⌝ }
+    ensures { λ _. ⌜ now (work .exit) ≡ zeroWords (length (now (work .entry))) ⌝ }
+    ensures { λ _. ⌜ now (floats .exit) ≡ zeroFloats (length (now (floats .entry))) ⌝ }
+{
+    let number = intake(
+        sizes,
+        o,
+        count,
+        fields,
+        parameters,
+        points,
+        masks,
+        elements,
+        surface,
+        work,
+        floats,
+    );
+    if number != 0 {
+        clear_floats(floats);
+        return Answer::Refused(number);
+    }
+    let answer = flip_all(sizes, points, elements, surface, work);
+    clear(work);
+    clear_floats(floats);
+    answer
+}

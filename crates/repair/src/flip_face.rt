@@ -1,0 +1,140 @@
+// Two-to-three over a shared face.
+use crate::flip_find::any_live;
+use crate::flip_replace::replace;
+use crate::orient::Trio;
+use crate::tried::Places;
+use crate::tried::Tried;
+use mesh::element::Tet;
+use mesh::element::Triple;
+use mesh::star::GONE;
+use mesh::star::Index;
+use mesh::words::word;
+ghost use mathlib.Core.Path.{_≡_};
+ghost use mathlib.Core.Bool.{true};
+ghost use mathlib.Core.List.{List, [], _∷_};
+ghost use mathlib.Core.Option.{none};
+ghost use Prim.Native.Nat.{ℕ, _≤_, _<_};
+ghost use lib.ListN.{length, getD};
+ghost use Rattle.mesh.specs.declared.element.Tet.{Tet};
+ghost use Rattle.mesh.specs.Words.{pointsOf};
+ghost use Rattle.mesh.specs.Complex.{mem};
+ghost use Rattle.mesh.specs.Element.{tet, verticesOf, cornersOf};
+ghost use Rattle.mesh.specs.Link.{without};
+ghost use Rattle.repair.specs.Mesh.{measure};
+ghost use Rattle.repair.specs.Flip.{State, tryFace};
+ghost use Rattle.repair.specs.Layout.{slotOk};
+ghost use Rattle.repair.specs.Trio.{elementsOf};
+ghost use Rattle.repair.specs.FlipLayout.{Stands, slotOf, FacesBound};
+ghost use Rattle.repair.specs.FlipTries.{Holds, Counted, Counts, Went, Start, FaceListed};
+
+// The words of the slot e: an element, or GONE four times.
+fn slot(work: &[u32], x: Index, e: u32) -> Tet
+    requires { ⌜ x .slots ≤ 1048576 ⌝ }
+    ensures { λ r. ⌜ ((n c : ℕ) (s : State) → Stands x n c (now (work .entry)) s → e < c
+        → (getD (s .slots) e none ≡ slotOf r) × (slotOk (x .vertices) r ≡ true)) ⌝ }
+{
+    let k = e as usize;
+    let p = x.slots + 4 * k;
+    Tet {
+        a: word(work, p),
+        b: word(work, p + 1),
+        c: word(work, p + 2),
+        d: word(work, p + 3),
+    }
+}
+
+// Whether v is a corner of f.
+fn is_corner(f: Triple, v: u32) -> bool
+    ensures { λ r. ⌜ r ≡ mem v (cornersOf f) ⌝ }
+{
+    if v == f.a {
+        return true;
+    }
+    if v == f.b {
+        return true;
+    }
+    v == f.c
+}
+
+// The first vertex of t that is no corner of f, and the last where all are.
+fn apex(t: Tet, f: Triple) -> u32
+    ensures { λ r. ⌜ r ≡ getD (without (cornersOf f) (verticesOf t)) 0 (t .d) ⌝ }
+{
+    if !is_corner(f, t.a) {
+        return t.a;
+    }
+    if !is_corner(f, t.b) {
+        return t.b;
+    }
+    if !is_corner(f, t.c) {
+        return t.c;
+    }
+    t.d
+}
+
+// The elements of the edge a b and each edge of f.
+fn three_about(f: Triple, a: u32, b: u32) -> Trio
+    ensures { λ r. ⌜ elementsOf r ≡ tet a b (f .a) (f .b) ∷ tet a b (f .b) (f .c) ∷ tet a b (f .c) (f .a) ∷ [] ⌝ }
+{
+    Trio {
+        count: 3,
+        a: Tet {
+            a: a,
+            b: b,
+            c: f.a,
+            d: f.b,
+        },
+        b: Tet {
+            a: a,
+            b: b,
+            c: f.b,
+            d: f.c,
+        },
+        c: Tet {
+            a: a,
+            b: b,
+            c: f.c,
+            d: f.a,
+        },
+    }
+}
+
+// Tries the face f, which of the elements at the start i and j have.
+pub(crate) fn try_face(
+    work: &mut [u32],
+    x: Index,
+    t: Tried,
+    f: Triple,
+    i: u32,
+    j: u32,
+    points: &[f64],
+) -> Tried
+    requires { ⌜ Counted x t ⌝ }
+    ensures { λ r. ⌜ ((n : ℕ) (ts : List Tet) (s : State) → Holds x n t (now (work .entry)) s → length ts ≡ n → FaceListed (x .vertices) ts f i j → Start ts s → FacesBound n (s .slots)
+        → Went x n (FacesBound n) (now (work .entry)) (now (work .exit)) r (tryFace (measure (pointsOf (x .vertices) (now (points .entry)))) ts s f)
+        × Start ts (tryFace (measure (pointsOf (x .vertices) (now (points .entry)))) ts s f)) ⌝ }
+    ensures { λ r. ⌜ Counts t r ⌝ }
+{
+    let p = slot(work, x, i);
+    let q = slot(work, x, j);
+    if p.a == GONE {
+        return t;
+    }
+    if q.a == GONE {
+        return t;
+    }
+    let a = apex(p, f);
+    let b = apex(q, f);
+    if any_live(work, x, a, b, b) {
+        return t;
+    }
+    let at = Places { a: i, b: j, c: j };
+    let old = Trio {
+        count: 2,
+        a: p,
+        b: q,
+        c: q,
+    };
+    let new = three_about(f, a, b);
+    replace(work, x, t, at, old, new, points)
+}
