@@ -15,6 +15,7 @@ use geometry::field::Field;
 use geometry::point::Point;
 use mesh::intake::Sizes;
 use repair::answer::Answer;
+use repair::flip::flip;
 use repair::improve::improve;
 use repair::smooth::smooth;
 ghost use Prim.Native.Nat.{_≤_, _<_};
@@ -136,8 +137,8 @@ fn fields(text: &[u8], k: Call) -> [Field; 8] {
     ]
 }
 
-// Passes are numbered 0 `improve`, 1 `smooth`, 2 `flip`: those below this number are replayed.
-pub(crate) const PASSES: u64 = 2;
+// Passes are numbered 0 `improve`, 1 `smooth`, 2 `flip`.
+pub(crate) const PASSES: u64 = 3;
 
 // What a call gives on these slices.
 fn run(
@@ -169,13 +170,26 @@ fn run(
             work,
             floats,
         ),
-        _ => smooth(
+        1 => smooth(
             z,
             o,
             k.count,
             f,
             k.listed,
             regions,
+            parameters,
+            points,
+            masks,
+            elements,
+            surface,
+            work,
+            floats,
+        ),
+        _ => flip(
+            z,
+            o,
+            k.count,
+            f,
             parameters,
             points,
             masks,
