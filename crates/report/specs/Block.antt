@@ -1,0 +1,184 @@
+-- Block files (document 01, "Block", and the rows 1, 2, 3 and 10 of "Where each number is given"), as a definition `reading` of all bytes:
+-- a number, or the plot. The file is one list of words, 128 a block. Definitions only.
+use Prim.Native.Nat.{ℕ, zero, suc, _+_, _-_, _*_, _/_, _%_, _^_, min}
+use mathlib.Core.Bool.{Bool, not, cond, _&&_, _||_}
+use mathlib.Core.List.{List, [], _∷_}
+use lib.Dec.{ltb, leb, eqb}
+use lib.Ieee.{Float}
+use lib.ListN.{length}
+use Rattle.geometry.specs.declared.bounds.Options.{Options}
+use Rattle.geometry.specs.declared.field.Field.{Field}
+use Rattle.geometry.specs.declared.field.Field.the-variants.{Level, Plane, Ball}
+use Rattle.geometry.specs.Float.{zero64}
+use Rattle.mesh.specs.Group.{numbers}
+use Rattle.mesh.specs.Tests.{every}
+use Rattle.report.specs.Bytes.{wordIn, floatIn, pointFrom, sumOf, listed, firstOf}
+
+-- ---- a block
+
+-- "file ends before its last block is whole": the bytes of the block k are not all there
+abbrev pub notWhole : List ℕ → ℕ → Bool
+notWhole s k = ltb (length s) (512 * (k + 1))
+
+-- "all 128 words add to 0 modulo 2^32"
+unfoldable pub addsToZero : List ℕ → ℕ → Bool
+addsToZero s k = eqb (sumOf s (128 * k) 128 % 2 ^ 32) 0
+
+-- "word 0 kind .., word 1 block number, counted from 0 through the whole file, word 2 records used"
+abbrev pub isExpected : List ℕ → ℕ → ℕ → ℕ → Bool
+isExpected s k kind count = eqb (wordIn s (128 * k)) kind && (eqb (wordIn s (128 * k + 1)) k && eqb (wordIn s (128 * k + 2)) count)
+
+-- the rows 1, 2, 3 for the block k, where this kind and count are expected
+unfoldable pub blockNumber : List ℕ → ℕ → ℕ → ℕ → ℕ
+blockNumber s k kind count =
+    cond (notWhole s k) 1 (cond (not (addsToZero s k)) 2 (cond (not (isExpected s k kind count)) 3 0))
+
+-- ---- the blocks of a file
+
+-- "Vertex record, 9 a block", "Element record: 4 words, 31 a block"
+abbrev pub vertexBlocks : ℕ → ℕ
+vertexBlocks n = (n + 8) / 9
+
+abbrev pub elementBlocks : ℕ → ℕ
+elementBlocks n = (n + 30) / 31
+
+-- "2 vertices, 3 elements": the kind of the block k, from 1 on
+abbrev pub kindOf : ℕ → ℕ → ℕ
+kindOf vertices k = cond (leb k (vertexBlocks vertices)) 2 3
+
+-- "Every block but the last of its kind is full": the count of the block k, from 1 on
+abbrev pub countOf : ℕ → ℕ → ℕ → ℕ
+countOf vertices elements k =
+    cond (leb k (vertexBlocks vertices)) (min 9 (vertices - 9 * (k - 1))) (min 31 (elements - 31 * (k - 1 - vertexBlocks vertices)))
+
+-- "bytes follow that block": 1 for bytes from the block k on
+abbrev pub endNumber : List ℕ → ℕ → ℕ
+endNumber s k = cond (ltb (512 * k) (length s)) 1 0
+
+-- "Blocks are checked one by one": n blocks from the block k on, and then the end
+unfoldable pub blocksFrom : List ℕ → ℕ → ℕ → ℕ → ℕ → ℕ
+blocksFrom s vertices elements zero k = endNumber s k
+blocksFrom s vertices elements (suc n) k =
+    firstOf (blockNumber s k (kindOf vertices k) (countOf vertices elements k)) (blocksFrom s vertices elements n (k + 1))
+
+-- "Header record: vertices, elements, .."
+abbrev pub verticesIn : List ℕ → ℕ
+verticesIn s = wordIn s 3
+
+abbrev pub elementsIn : List ℕ → ℕ
+elementsIn s = wordIn s 4
+
+-- "`plot`'s own count limits (10) come right after the header block"
+abbrev pub limitNumber : ℕ → ℕ → ℕ
+limitNumber vertices elements = cond (ltb 24 vertices || ltb 24 elements) 10 0
+
+-- the blocks behind the header, by the header's counts
+unfoldable pub bodyNumber : List ℕ → ℕ → ℕ → ℕ
+bodyNumber s vertices elements =
+    firstOf (limitNumber vertices elements) (blocksFrom s vertices elements (vertexBlocks vertices + elementBlocks elements) 1)
+
+-- 1, 2, 3 or 10 for the whole file, and 0 where none applies
+unfoldable pub fileNumber : List ℕ → ℕ
+fileNumber s = firstOf (blockNumber s 0 1 1) (bodyNumber s (verticesIn s) (elementsIn s))
+
+-- ---- the header's record
+
+-- "lo and hi (6 f64: x lo, x hi, y, z), cells (3), periodic bits .., passes"
+unfoldable pub headerOptions : List ℕ → Options
+headerOptions s = record {
+  bounds = record {
+    lo = record { x = floatIn s 5; y = floatIn s 9; z = floatIn s 13 };
+    hi = record { x = floatIn s 7; y = floatIn s 11; z = floatIn s 15 };
+  };
+  cells = record { x = wordIn s 17; y = wordIn s 18; z = wordIn s 19 };
+  periodic = wordIn s 20;
+  passes = wordIn s 21;
+}
+
+-- "number of fields, then 8 places of kind and 4 f64"
+abbrev pub fieldsIn : List ℕ → ℕ
+fieldsIn s = wordIn s 22
+
+abbrev pub kindAt : List ℕ → ℕ → ℕ
+kindAt s j = wordIn s (23 + 9 * j)
+
+-- "(level: c; plane: n, d; ball: c, r)": a field's numbers from the word i on, "numbers that a field's kind doesn't use are not read"
+unfoldable pub fieldFrom : List ℕ → ℕ → ℕ → Field
+fieldFrom s kind i =
+    cond (eqb kind 0) (Level (floatIn s i))
+    (cond (eqb kind 1) (Plane (pointFrom s i) (floatIn s (i + 6))) (Ball (pointFrom s i) (floatIn s (i + 6))))
+
+-- the field j, and a level 0 where "unused field places .. are not read"
+unfoldable pub fieldAt : List ℕ → ℕ → Field
+fieldAt s j = cond (ltb j (fieldsIn s)) (fieldFrom s (kindAt s j) (24 + 9 * j)) (Level zero64)
+
+abbrev pub headerFields : List ℕ → List Field
+headerFields s =
+    fieldAt s 0 ∷ fieldAt s 1 ∷ fieldAt s 2 ∷ fieldAt s 3 ∷ fieldAt s 4 ∷ fieldAt s 5 ∷ fieldAt s 6 ∷ fieldAt s 7 ∷ []
+
+-- "over 8 fields, an unknown kind": of the row 11 what an enum of three kinds and 8 places cannot hold
+unfoldable pub kindsNumber : List ℕ → ℕ
+kindsNumber s = cond (leb (fieldsIn s) 8 && every (λ j. leb (kindAt s j) 2) (numbers 0 (fieldsIn s))) 0 11
+
+-- ---- vertex and element records
+
+-- where the record of the vertex v begins: "words 3 to 126 records"
+unfoldable pub vertexPlace : ℕ → ℕ
+vertexPlace v = 128 * (1 + v / 9) + 3 + 13 * (v % 9)
+
+-- "3 parameters, 3 point coordinates, mask"
+unfoldable pub parameterRow : List ℕ → ℕ → List Float
+parameterRow s v = floatIn s (vertexPlace v) ∷ floatIn s (vertexPlace v + 2) ∷ floatIn s (vertexPlace v + 4) ∷ []
+
+unfoldable pub pointRow : List ℕ → ℕ → List Float
+pointRow s v = floatIn s (vertexPlace v + 6) ∷ floatIn s (vertexPlace v + 8) ∷ floatIn s (vertexPlace v + 10) ∷ []
+
+unfoldable pub maskRow : List ℕ → ℕ → List ℕ
+maskRow s v = wordIn s (vertexPlace v + 12) ∷ []
+
+-- where the record of the element e begins, behind this many blocks
+unfoldable pub elementPlace : ℕ → ℕ → ℕ
+elementPlace blocks e = 128 * (blocks + e / 31) + 3 + 4 * (e % 31)
+
+unfoldable pub elementRow : List ℕ → ℕ → ℕ → List ℕ
+elementRow s blocks e =
+    wordIn s (elementPlace blocks e) ∷ wordIn s (elementPlace blocks e + 1)
+    ∷ wordIn s (elementPlace blocks e + 2) ∷ wordIn s (elementPlace blocks e + 3) ∷ []
+
+-- ---- the reading
+
+-- what the file holds: vertices and elements as they stand in the passes' slices, 3 floats, 3 floats and a mask a vertex, 4 words an element
+pub record Plot : Type 0 where
+  pub options : Options
+  pub count : ℕ
+  pub fields : List Field
+  pub vertices : ℕ
+  pub elements : ℕ
+  pub parameters : List Float
+  pub points : List Float
+  pub masks : List ℕ
+  pub corners : List ℕ
+
+pub data Reading : Type 0 where
+  refused : ℕ → Reading
+  read : Plot → Reading
+
+-- 1, 2, 3, 10 in their order, then 11 for the fields: what else the row 11 says is intake's
+unfoldable pub readingNumber : List ℕ → ℕ
+readingNumber s = firstOf (fileNumber s) (kindsNumber s)
+
+unfoldable pub plotIn : List ℕ → Plot
+plotIn s = record {
+  options = headerOptions s;
+  count = fieldsIn s;
+  fields = headerFields s;
+  vertices = verticesIn s;
+  elements = elementsIn s;
+  parameters = listed (parameterRow s) (verticesIn s);
+  points = listed (pointRow s) (verticesIn s);
+  masks = listed (maskRow s) (verticesIn s);
+  corners = listed (elementRow s (1 + vertexBlocks (verticesIn s))) (elementsIn s);
+}
+
+unfoldable pub reading : List ℕ → Reading
+reading s = cond (eqb (readingNumber s) 0) (read (plotIn s)) (refused (readingNumber s))

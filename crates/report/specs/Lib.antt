@@ -1,0 +1,8 @@
+-- The definitions of block files and of the table, a file for each subject.
+pub mod Bytes
+pub mod Block
+pub mod Table
+pub mod Written
+pub mod Report
+pub mod Write
+pub mod Put

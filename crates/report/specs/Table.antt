@@ -1,0 +1,147 @@
+-- The text that `plot` prints (document 01, "Trial soil blocks": "Lines: sizes after the run; the three counts; bad elements and the
+-- alternating count of demand 3; per field its number and elements inside; one line an element"), as bytes. Definitions only.
+use Prim.Native.Nat.{ℕ, zero, suc, _+_, _/_, _%_}
+use mathlib.Core.Bool.{Bool, cond}
+use mathlib.Core.List.{List, [], _∷_, _++_}
+use lib.Dec.{ltb}
+use lib.IntN.{ℤ, pos, negsuc}
+use lib.Ieee.{le}
+use lib.ListN.{length}
+use Rattle.geometry.specs.declared.point.Point.{Point}
+use Rattle.geometry.specs.declared.field.Field.{Field}
+use Rattle.geometry.specs.Float.{zero64}
+use Rattle.geometry.specs.Field.{value}
+use Rattle.geometry.specs.Score.{score, bad}
+use Rattle.mesh.specs.declared.element.Tet.{Tet}
+use Rattle.mesh.specs.Words.{pointAt}
+use Rattle.mesh.specs.Complex.{keep}
+
+-- ---- numbers
+
+-- the digits of n, at most `most` of them, the highest first
+unfoldable pub digits : ℕ → ℕ → List ℕ
+digits zero n = []
+digits (suc most) n = cond (ltb n 10) ((48 + n) ∷ []) (digits most (n / 10) ++ ((48 + n % 10) ∷ []))
+
+-- n in decimal digits, with no leading zeros: n + 1 digits are enough for n
+unfoldable pub decimal : ℕ → List ℕ
+decimal n = digits (suc n) n
+
+-- a minus sign before what is below 0
+unfoldable pub signed : ℤ → List ℕ
+signed (pos n) = decimal n
+signed (negsuc n) = 45 ∷ decimal (suc n)
+
+-- ---- words
+
+-- a word's bytes, a space behind it
+unfoldable pub vertices-word : List ℕ
+vertices-word = 118 ∷ 101 ∷ 114 ∷ 116 ∷ 105 ∷ 99 ∷ 101 ∷ 115 ∷ 32 ∷ []
+
+-- the same with a space before it
+unfoldable pub elements-word : List ℕ
+elements-word = 32 ∷ 101 ∷ 108 ∷ 101 ∷ 109 ∷ 101 ∷ 110 ∷ 116 ∷ 115 ∷ 32 ∷ []
+
+unfoldable pub collapse-word : List ℕ
+collapse-word = 99 ∷ 111 ∷ 108 ∷ 108 ∷ 97 ∷ 112 ∷ 115 ∷ 101 ∷ 32 ∷ []
+
+unfoldable pub move-word : List ℕ
+move-word = 32 ∷ 109 ∷ 111 ∷ 118 ∷ 101 ∷ 32 ∷ []
+
+unfoldable pub reconnect-word : List ℕ
+reconnect-word = 32 ∷ 114 ∷ 101 ∷ 99 ∷ 111 ∷ 110 ∷ 110 ∷ 101 ∷ 99 ∷ 116 ∷ 32 ∷ []
+
+unfoldable pub low-word : List ℕ
+low-word = 108 ∷ 111 ∷ 119 ∷ 32 ∷ []
+
+unfoldable pub euler-word : List ℕ
+euler-word = 32 ∷ 101 ∷ 117 ∷ 108 ∷ 101 ∷ 114 ∷ 32 ∷ []
+
+unfoldable pub inside-word : List ℕ
+inside-word = 105 ∷ 110 ∷ 115 ∷ 105 ∷ 100 ∷ 101 ∷ 32 ∷ []
+
+unfoldable pub element-word : List ℕ
+element-word = 101 ∷ 108 ∷ 101 ∷ 109 ∷ 101 ∷ 110 ∷ 116 ∷ 32 ∷ []
+
+unfoldable pub refused-word : List ℕ
+refused-word = 114 ∷ 101 ∷ 102 ∷ 117 ∷ 115 ∷ 101 ∷ 100 ∷ 32 ∷ []
+
+unfoldable pub space : List ℕ
+space = 32 ∷ []
+
+-- every line ends with byte 10
+unfoldable pub line-end : List ℕ
+line-end = 10 ∷ []
+
+-- ---- lines
+
+-- "`plot` prints only `refused N`"
+unfoldable pub refusedText : ℕ → List ℕ
+refusedText n = refused-word ++ (decimal n ++ line-end)
+
+unfoldable pub sizesLine : ℕ → ℕ → List ℕ
+sizesLine vertices elements = vertices-word ++ (decimal vertices ++ (elements-word ++ (decimal elements ++ line-end)))
+
+unfoldable pub countsLine : ℕ → ℕ → ℕ → List ℕ
+countsLine collapsed moved reconnected =
+    collapse-word ++ (decimal collapsed ++ (move-word ++ (decimal moved ++ (reconnect-word ++ (decimal reconnected ++ line-end)))))
+
+unfoldable pub stateLine : ℕ → ℤ → List ℕ
+stateLine low euler = low-word ++ (decimal low ++ (euler-word ++ (signed euler ++ line-end)))
+
+unfoldable pub insideLine : ℕ → ℕ → List ℕ
+insideLine field count = inside-word ++ (decimal field ++ (space ++ (decimal count ++ line-end)))
+
+unfoldable pub elementLine : Tet → List ℕ
+elementLine t =
+    element-word
+    ++ ((decimal (t .a) ++ space) ++ ((decimal (t .b) ++ space) ++ ((decimal (t .c) ++ space) ++ (decimal (t .d) ++ line-end))))
+
+-- a line for each field, from the field number j on
+unfoldable pub insideLines : ℕ → List ℕ → List ℕ
+insideLines j [] = []
+insideLines j (n ∷ ns) = insideLine j n ++ insideLines (j + 1) ns
+
+unfoldable pub elementLines : List Tet → List ℕ
+elementLines [] = []
+elementLines (t ∷ ts) = elementLine t ++ elementLines ts
+
+-- ---- the table
+
+-- what the lines say
+pub record Table : Type 0 where
+  pub vertices : ℕ
+  pub collapsed : ℕ
+  pub moved : ℕ
+  pub reconnected : ℕ
+  pub low : ℕ
+  pub euler : ℤ
+  pub inside : List ℕ
+  pub elements : List Tet
+
+unfoldable pub tableText : Table → List ℕ
+tableText t =
+    sizesLine (t .vertices) (length (t .elements))
+    ++ (countsLine (t .collapsed) (t .moved) (t .reconnected)
+    ++ (stateLine (t .low) (t .euler) ++ (insideLines 0 (t .inside) ++ elementLines (t .elements))))
+
+-- ---- what is inside
+
+-- the place looked at: "the element's first vertex"
+unfoldable pub placeOf : List Point → Tet → Point
+placeOf points t = pointAt points (t .a)
+
+-- "An element is inside a field where the field's value .. is at most 0"
+abbrev pub isInside : List Point → Field → Tet → Bool
+isInside points f t = le (value f (placeOf points t)) zero64
+
+-- "per field its number and elements inside"
+unfoldable pub insideCount : List Point → List Tet → Field → ℕ
+insideCount points elements f = length (keep (isInside points f) elements)
+
+-- "bad elements": score below 0.1
+abbrev pub isLow : List Point → Tet → Bool
+isLow points t = bad (score (pointAt points (t .a)) (pointAt points (t .b)) (pointAt points (t .c)) (pointAt points (t .d)))
+
+unfoldable pub lowCount : List Point → List Tet → ℕ
+lowCount points elements = length (keep (isLow points) elements)
