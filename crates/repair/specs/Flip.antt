@@ -1,7 +1,7 @@
 -- `flip` on values (document 01, "Element and surface"; `flip` of repair.rs). An element keeps its number through the pass: slots stand
 -- in number order, each with an element or with nothing once it is replaced, and new elements get the next numbers. Definitions only.
-use Prim.Native.Nat.{ℕ, zero, suc, _+_}
-use mathlib.Core.Bool.{Bool, true, false, not, cond, _&&_}
+use Prim.Native.Nat.{ℕ, _+_}
+use mathlib.Core.Bool.{Bool, true, false, cond, _&&_}
 use mathlib.Core.List.{List, [], _∷_, _++_, map}
 use mathlib.Core.Option.{Option, none, some}
 use lib.Dec.{eqb, leb}
@@ -13,7 +13,7 @@ use Rattle.mesh.specs.declared.element.Pair.{Pair}
 use Rattle.mesh.specs.declared.element.Triple.{Triple}
 use Rattle.mesh.specs.declared.element.Tet.{Tet}
 use Rattle.mesh.specs.Sort.{sort, unique}
-use Rattle.mesh.specs.Complex.{mem, sub, keep}
+use Rattle.mesh.specs.Complex.{sub, keep}
 use Rattle.mesh.specs.Tests.{every}
 use Rattle.mesh.specs.Link.{without}
 use Rattle.mesh.specs.Element.{samePair, tet, verticesOf, cornersOf, keyOf}

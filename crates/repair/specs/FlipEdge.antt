@@ -1,5 +1,5 @@
 -- What three-to-two reads and lists in the work slice (src/flip_edge.rt). For the contracts of private functions; definitions only.
-use Prim.Native.Nat.{ℕ, _+_, _*_}
+use Prim.Native.Nat.{ℕ, _+_}
 use mathlib.Core.Path.{_≡_}
 use mathlib.Core.List.{List, [], _∷_}
 use lib.Dec.{eqb, leb}
@@ -8,22 +8,17 @@ use Rattle.mesh.specs.declared.element.Pair.{Pair}
 use Rattle.mesh.specs.declared.element.Triple.{Triple}
 use Rattle.mesh.specs.declared.element.Tet.{Tet}
 use Rattle.mesh.specs.declared.star.Index.{Index}
-use Rattle.mesh.specs.Words.{wordAt}
 use Rattle.mesh.specs.Sort.{sort, unique}
-use Rattle.mesh.specs.Element.{tet}
 use Rattle.mesh.specs.Star.{written}
 use Rattle.repair.specs.declared.orient.Trio.{Trio}
 use Rattle.repair.specs.Flip.{besides}
 use Rattle.repair.specs.Layout.{Same}
+use Rattle.repair.specs.Replace.{slotAt}
 use Rattle.repair.specs.FlipTries.{edgeRow}
-
--- the element in the slot i
-abbrev pub elementIn : Index → List ℕ → ℕ → Tet
-elementIn x w i = tet (wordAt w (x .slots + 4 * i)) (wordAt w (x .slots + 4 * i + 1)) (wordAt w (x .slots + 4 * i + 2)) (wordAt w (x .slots + 4 * i + 3))
 
 -- the elements in the slots with the three numbers of f
 abbrev pub trioIn : Index → List ℕ → Triple → Trio
-trioIn x w f = record { count = 3; a = elementIn x w (f .a); b = elementIn x w (f .b); c = elementIn x w (f .c) }
+trioIn x w f = record { count = 3; a = slotAt x w (f .a); b = slotAt x w (f .b); c = slotAt x w (f .c) }
 
 -- the three elements
 abbrev pub threeOf : Trio → List Tet

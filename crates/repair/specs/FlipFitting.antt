@@ -7,7 +7,7 @@ use mathlib.Core.List.{List}
 use lib.Ieee.{Float}
 use lib.ListN.{length}
 use Rattle.mesh.specs.declared.intake.Sizes.{Sizes}
-use Rattle.mesh.specs.Words.{zeroWords, pointsOf}
+use Rattle.mesh.specs.Words.{pointsOf}
 use Rattle.mesh.specs.Tests.{every}
 use Rattle.mesh.specs.Element.{tets}
 use Rattle.mesh.specs.Manifold.{triples}
@@ -17,7 +17,7 @@ use Rattle.repair.specs.Mesh.{measure}
 use Rattle.repair.specs.Flip.{State, live, flips}
 use Rattle.repair.specs.FlipEnd.{flipEnd}
 
--- counts within their limits, buffers long enough, work of zeros, elements with four different vertices
+-- counts within their limits, buffers long enough, elements with four different vertices
 pub record FlipFitting (z : Sizes) (es ss work : List ℕ) : Type 0 where
   pub vertices : z .vertices ≤ 4096
   pub elements : z .elements ≤ 16384
@@ -25,7 +25,6 @@ pub record FlipFitting (z : Sizes) (es ss work : List ℕ) : Type 0 where
   pub slots : 8 * z .elements ≤ length es
   pub surface : 12 * z .elements ≤ length ss
   pub long : 256 * z .elements + 32 * z .vertices + 1024 ≤ length work
-  pub zeros : work ≡ zeroWords (length work)
   pub numbered : every (wellNumbered (z .vertices)) (tets (z .elements) es) ≡ true
 
 -- where the trials end

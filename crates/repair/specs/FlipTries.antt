@@ -1,7 +1,7 @@
 -- What the trials of `flip` start from and leave in the work slice (src/tried.rt). For the contracts of private functions; definitions only.
 use Prim.Native.Nat.{ℕ, _+_, _*_, _≤_, _<_}
 use mathlib.Core.Path.{_≡_}
-use mathlib.Core.Bool.{true, cond}
+use mathlib.Core.Bool.{cond}
 use mathlib.Core.List.{List, [], _∷_, map}
 use mathlib.Core.Option.{Option, none, some}
 use lib.Dec.{eqb}

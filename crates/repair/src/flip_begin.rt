@@ -1,4 +1,4 @@
-// How `flip` begins: slots and their index, shared faces and edges listed, in a work slice of zeros.
+// How `flip` begins: slots and their index, shared faces and edges listed, in the work slice (flip_layout.rt).
 use crate::tried::Lists;
 use mesh::list::Listed;
 use mesh::list::bad_edges_in;
@@ -10,7 +10,7 @@ ghost use mathlib.Core.Path.{_≡_};
 ghost use mathlib.Core.Bool.{true};
 ghost use Prim.Native.Nat.{_*_, _≤_};
 ghost use lib.ListN.{length};
-ghost use Rattle.mesh.specs.Words.{zeroWords, pointsOf};
+ghost use Rattle.mesh.specs.Words.{pointsOf};
 ghost use Rattle.mesh.specs.Tests.{every};
 ghost use Rattle.mesh.specs.Element.{tets};
 ghost use Rattle.mesh.specs.Intake.{wellNumbered};
@@ -63,7 +63,6 @@ pub(crate) fn begin_flip(
     elements: &[u32],
 ) -> Lists
     requires { ⌜ Room x n (length (now work)) ⌝ }
-    requires { ⌜ now work ≡ zeroWords (length (now work)) ⌝ }
     requires { ⌜ (4 * n ≤ length (now elements)) × (every (wellNumbered (x .vertices)) (tets n (now elements)) ≡ true) ⌝ }
     ensures { λ r. ⌜ Begun x n (pointsOf (x .vertices) (now (points .entry))) (tets n (now (elements .entry))) r (now (work .exit)) ⌝ }
 {

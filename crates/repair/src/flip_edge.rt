@@ -1,7 +1,9 @@
 // Three-to-two over an edge.
 use crate::flip_find::any_live;
 use crate::flip_find::list_both;
+use crate::flip_layout::triple_from;
 use crate::flip_replace::replace;
+use crate::flip_slots::slot;
 use crate::orient::Trio;
 use crate::tried::Places;
 use crate::tried::Tried;
@@ -12,7 +14,6 @@ use mesh::rows::sort_rows;
 use mesh::rows::unique_rows;
 use mesh::star::Index;
 use mesh::words::put_word;
-use mesh::words::word;
 ghost use mathlib.Core.Path.{_≡_};
 ghost use mathlib.Core.List.{[], _∷_};
 ghost use Prim.Native.Nat.{ℕ, _+_, _≤_, _<_};
@@ -23,38 +24,9 @@ ghost use Rattle.mesh.specs.Link.{without};
 ghost use Rattle.repair.specs.Mesh.{measure};
 ghost use Rattle.repair.specs.Flip.{State, tryEdge};
 ghost use Rattle.repair.specs.Trio.{elementsOf};
-ghost use Rattle.repair.specs.FlipLayout.{EdgesBound, tripleAt};
+ghost use Rattle.repair.specs.FlipLayout.{EdgesBound};
 ghost use Rattle.repair.specs.FlipTries.{Holds, Counted, Counts, Went, EdgeListed, edgeRow};
-ghost use Rattle.repair.specs.FlipEdge.{elementIn, trioIn, threeOf, othersOf, Puts, ListedAt};
-
-// The element in the slot i.
-fn element_in(work: &[u32], x: Index, i: u32) -> Tet
-    requires { ⌜ x .slots ≤ 1048576 ⌝ }
-    ensures { λ r. ⌜ r ≡ elementIn x (now (work .entry)) i ⌝ }
-{
-    let k = i as usize;
-    let p = x.slots + 4 * k;
-    Tet {
-        a: word(work, p),
-        b: word(work, p + 1),
-        c: word(work, p + 2),
-        d: word(work, p + 3),
-    }
-}
-
-// The three words from a on, 0 past the end.
-fn three_from(work: &[u32], a: usize) -> Triple
-    ensures { λ r. ⌜ r ≡ tripleAt (now (work .entry)) a ⌝ }
-{
-    if work.len() < a {
-        return Triple { a: 0, b: 0, c: 0 };
-    }
-    Triple {
-        a: word(work, a),
-        b: word(work, a + 1),
-        c: word(work, a + 2),
-    }
-}
+ghost use Rattle.repair.specs.FlipEdge.{trioIn, threeOf, othersOf, Puts, ListedAt};
 
 // The elements in the slots with the three numbers of f.
 fn elements_in(work: &[u32], x: Index, f: Triple) -> Trio
@@ -63,9 +35,9 @@ fn elements_in(work: &[u32], x: Index, f: Triple) -> Trio
 {
     Trio {
         count: 3,
-        a: element_in(work, x, f.a),
-        b: element_in(work, x, f.b),
-        c: element_in(work, x, f.c),
+        a: slot(work, x, f.a),
+        b: slot(work, x, f.b),
+        c: slot(work, x, f.c),
     }
 }
 
@@ -162,13 +134,13 @@ pub(crate) fn try_edge(work: &mut [u32], x: Index, t: Tried, e: Pair, points: &[
     if k != 3 {
         return t;
     }
-    let i = three_from(work, x.area);
+    let i = triple_from(work, x.area);
     let old = elements_in(work, x, i);
     let m = list_others(work, x, old, e);
     if m != 3 {
         return t;
     }
-    let f = three_from(work, x.area);
+    let f = triple_from(work, x.area);
     if any_live(work, x, f.a, f.b, f.c) {
         return t;
     }

@@ -1,5 +1,6 @@
 // The end of `flip`: the boundary of the elements in an area, and its keys beside those of the surface given.
 use crate::answer::Answer;
+use crate::flip_layout::triple_from;
 use mesh::boundary::Outcome;
 use mesh::boundary::boundary_in;
 use mesh::element::Triple;
@@ -8,7 +9,6 @@ use mesh::intake::Sizes;
 use mesh::rows::sort_rows;
 use mesh::words::copy_into;
 use mesh::words::put_word;
-use mesh::words::word;
 ghost use mathlib.Core.Path.{_≡_};
 ghost use mathlib.Core.Bool.{true};
 ghost use mathlib.Core.List.{List, map};
@@ -25,18 +25,6 @@ ghost use Rattle.repair.specs.FlipLayout.{tripleAt, withTriple};
 ghost use Rattle.repair.specs.FlipEnd.{keyedOutcome, SurfaceEnded, EndRoom, flipEnd};
 ghost use Rattle.repair.specs.Step.{over};
 ghost use Rattle.repair.specs.declared.answer.Answer.{Answer};
-
-// The triple whose three words begin at p.
-pub(crate) fn triple_from(area: &[u32], p: usize) -> Triple
-    requires { ⌜ p + 3 ≤ length (now area) ⌝ }
-    ensures { λ r. ⌜ r ≡ tripleAt (now (area .entry)) p ⌝ }
-{
-    Triple {
-        a: word(area, p),
-        b: word(area, p + 1),
-        c: word(area, p + 2),
-    }
-}
 
 // Writes the key of the triple at i to d.
 fn put_key(area: &mut [u32], i: usize, d: usize)

@@ -1,6 +1,7 @@
 // Two-to-three over a shared face.
 use crate::flip_find::any_live;
 use crate::flip_replace::replace;
+use crate::flip_slots::slot;
 use crate::orient::Trio;
 use crate::tried::Places;
 use crate::tried::Tried;
@@ -8,12 +9,10 @@ use mesh::element::Tet;
 use mesh::element::Triple;
 use mesh::star::GONE;
 use mesh::star::Index;
-use mesh::words::word;
 ghost use mathlib.Core.Path.{_≡_};
 ghost use mathlib.Core.Bool.{true};
 ghost use mathlib.Core.List.{List, [], _∷_};
-ghost use mathlib.Core.Option.{none};
-ghost use Prim.Native.Nat.{ℕ, _≤_, _<_};
+ghost use Prim.Native.Nat.{ℕ};
 ghost use lib.ListN.{length, getD};
 ghost use Rattle.mesh.specs.declared.element.Tet.{Tet};
 ghost use Rattle.mesh.specs.Words.{pointsOf};
@@ -22,26 +21,9 @@ ghost use Rattle.mesh.specs.Element.{tet, verticesOf, cornersOf};
 ghost use Rattle.mesh.specs.Link.{without};
 ghost use Rattle.repair.specs.Mesh.{measure};
 ghost use Rattle.repair.specs.Flip.{State, tryFace};
-ghost use Rattle.repair.specs.Layout.{slotOk};
 ghost use Rattle.repair.specs.Trio.{elementsOf};
-ghost use Rattle.repair.specs.FlipLayout.{Stands, slotOf, FacesBound};
+ghost use Rattle.repair.specs.FlipLayout.{FacesBound};
 ghost use Rattle.repair.specs.FlipTries.{Holds, Counted, Counts, Went, Start, FaceListed};
-
-// The words of the slot e: an element, or GONE four times.
-fn slot(work: &[u32], x: Index, e: u32) -> Tet
-    requires { ⌜ x .slots ≤ 1048576 ⌝ }
-    ensures { λ r. ⌜ ((n c : ℕ) (s : State) → Stands x n c (now (work .entry)) s → e < c
-        → (getD (s .slots) e none ≡ slotOf r) × (slotOk (x .vertices) r ≡ true)) ⌝ }
-{
-    let k = e as usize;
-    let p = x.slots + 4 * k;
-    Tet {
-        a: word(work, p),
-        b: word(work, p + 1),
-        c: word(work, p + 2),
-        d: word(work, p + 3),
-    }
-}
 
 // Whether v is a corner of f.
 fn is_corner(f: Triple, v: u32) -> bool

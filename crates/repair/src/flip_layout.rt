@@ -7,10 +7,12 @@
 //   faces    44 n  the elements of the start, behind them the shared faces (mesh, shared.rt), five words each
 //   edges    32 n  the elements of the start, behind them the bad ones, behind them their edges (mesh, list.rt), two words each
 //   area           the rest
+use mesh::element::Triple;
 use mesh::star::Index;
+use mesh::words::word;
 ghost use mathlib.Core.Path.{_≡_};
 ghost use Prim.Native.Nat.{ℕ, _+_, _*_, _≤_};
-ghost use Rattle.repair.specs.FlipLayout.{Room};
+ghost use Rattle.repair.specs.FlipLayout.{Room, tripleAt};
 
 // The layout for nv vertices and n elements, both within document 01's limits.
 pub(crate) fn flip_layout(nv: u32, n: u32) -> Index
@@ -28,5 +30,19 @@ pub(crate) fn flip_layout(nv: u32, n: u32) -> Index
         area: lengths + v + 76 * k,
         room: 6 * n,
         vertices: nv,
+    }
+}
+
+// The triple whose three words begin at p, 0 past the end.
+pub(crate) fn triple_from(work: &[u32], p: usize) -> Triple
+    ensures { λ r. ⌜ r ≡ tripleAt (now (work .entry)) p ⌝ }
+{
+    if work.len() < p {
+        return Triple { a: 0, b: 0, c: 0 };
+    }
+    Triple {
+        a: word(work, p),
+        b: word(work, p + 1),
+        c: word(work, p + 2),
     }
 }

@@ -1,4 +1,5 @@
-// Slots of `flip` emptied, and slots added behind the others.
+// Slots of `flip` read, emptied, and added behind the others.
+use crate::tally::element_from;
 use mesh::element::Tet;
 use mesh::star::GONE;
 use mesh::star::Index;
@@ -12,8 +13,17 @@ ghost use Prim.Native.Nat.{ℕ, _+_, _*_, _≤_, _<_};
 ghost use lib.ListN.{set};
 ghost use Rattle.mesh.specs.Intake.{wellNumbered};
 ghost use Rattle.repair.specs.Flip.{State};
-ghost use Rattle.repair.specs.Replace.{putSlot};
+ghost use Rattle.repair.specs.Replace.{slotAt, putSlot};
 ghost use Rattle.repair.specs.FlipLayout.{Stands, Kept};
+
+// The words of the slot e: an element, or GONE four times.
+pub(crate) fn slot(work: &[u32], x: Index, e: u32) -> Tet
+    requires { ⌜ x .slots ≤ 1048576 ⌝ }
+    ensures { λ r. ⌜ r ≡ slotAt x (now (work .entry)) e ⌝ }
+{
+    let k = e as usize;
+    element_from(work, x.slots + 4 * k)
+}
 
 // Writes the element t to the slot e.
 fn put_slot(work: &mut [u32], x: Index, e: u32, t: Tet)

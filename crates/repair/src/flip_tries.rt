@@ -1,7 +1,7 @@
 // The listed faces and edges of `flip`, tried one after the other.
 use crate::flip_edge::try_edge;
-use crate::flip_end::triple_from;
 use crate::flip_face::try_face;
+use crate::flip_layout::triple_from;
 use crate::tried::Tried;
 use mesh::element::Pair;
 use mesh::star::Index;

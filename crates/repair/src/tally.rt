@@ -1,6 +1,5 @@
 // Elements measured one after the other: the lowest score, and how many are bad.
 use geometry::float::smaller;
-use geometry::point::Point;
 use geometry::point::determinant;
 use geometry::score::is_bad;
 use geometry::score::score;
@@ -10,7 +9,7 @@ use mesh::words::word;
 ghost use mathlib.Core.Path.{_≡_};
 ghost use Prim.Native.Nat.{_+_, _*_, _≤_};
 ghost use lib.ListN.{length, drop};
-ghost use Rattle.mesh.specs.Words.{wordAt, pointAt, pointsOf};
+ghost use Rattle.mesh.specs.Words.{wordAt, pointsOf};
 ghost use Rattle.mesh.specs.Tests.{nodup};
 ghost use Rattle.mesh.specs.Element.{tet, tets, verticesOf};
 ghost use Rattle.repair.specs.Mesh.{measure, scoreOf};
@@ -65,11 +64,18 @@ fn refused(r: Tally) -> Tally
     }
 }
 
-// The element whose four words begin at p.
+// The element whose four words begin at p, 0 past the end.
 pub(crate) fn element_from(work: &[u32], p: usize) -> Tet
-    requires { ⌜ p + 4 ≤ length (now work) ⌝ }
     ensures { λ r. ⌜ r ≡ tet (wordAt (now (work .entry)) p) (wordAt (now (work .entry)) (p + 1)) (wordAt (now (work .entry)) (p + 2)) (wordAt (now (work .entry)) (p + 3)) ⌝ }
 {
+    if work.len() < p {
+        return Tet {
+            a: 0,
+            b: 0,
+            c: 0,
+            d: 0,
+        };
+    }
     Tet {
         a: word(work, p),
         b: word(work, p + 1),

@@ -1,6 +1,7 @@
 // The elements about a group, measured from the points as they are and as they would be with the group moved.
 use crate::candidate::kept_on;
 use crate::members::is_member;
+use crate::tally::score_of;
 use geometry::bounds::Options;
 use geometry::float::smaller;
 use geometry::point::Point;
@@ -14,7 +15,7 @@ ghost use mathlib.Core.Path.{_≡_};
 ghost use mathlib.Core.Bool.{true};
 ghost use Rattle.mesh.specs.Words.{pointAt, pointsOf};
 ghost use Rattle.mesh.specs.Tests.{every};
-ghost use Rattle.repair.specs.Mesh.{measure, scoreOf, lowestOf};
+ghost use Rattle.repair.specs.Mesh.{measure, lowestOf};
 ghost use Rattle.repair.specs.Site.{InRange, about, trialPoints, measuredOf};
 
 // Where the group and the elements about it stand in the work: the rows of the group, its first vertex at `group`, and at `area` the
@@ -37,17 +38,6 @@ pub struct Measured {
 pub struct Trial {
     pub above: bool,
     pub lowest: f64,
-}
-
-// The score of an element from the points of nv vertices.
-fn score_of(points: &[f64], nv: usize, t: Tet) -> f64
-    ensures { λ r. ⌜ r ≡ scoreOf (pointsOf nv (now (points .entry))) t ⌝ }
-{
-    let a = vertex_point(points, nv, t.a);
-    let b = vertex_point(points, nv, t.b);
-    let c = vertex_point(points, nv, t.c);
-    let d = vertex_point(points, nv, t.d);
-    score(a, b, c, d)
 }
 
 // The lowest score about the group as it is.

@@ -1,12 +1,12 @@
 -- How `improve` begins: groups, slots and index laid into a work slice of zeros stand for the elements given, none replaced. Assumes nothing.
-use mathlib.Core.Path.{_≡_, refl, sym, ap, ap₂, subst, _∙_}
-use mathlib.Core.Logic.{_⊎_, inl, inr}
-use mathlib.Core.Bool.{Bool, true, false, not, cond, _&&_, _||_}
+use mathlib.Core.Path.{_≡_, refl, sym, ap, subst, _∙_}
+use mathlib.Core.Logic.{inl, inr}
+use mathlib.Core.Bool.{true, not, _&&_}
 use mathlib.Core.List.{List, [], _∷_, _++_, append-assoc}
-use Prim.Native.Nat.{ℕ, zero, suc, _+_, _-_, _*_, _≤_, _<_}
+use Prim.Native.Nat.{ℕ, _+_, _-_, _*_, _≤_, _<_}
 use native.Mathlib.Omega.{arith}
-use lib.Dec.{eqb, leb, ltb}
-use lib.ListN.{length, take, drop, replicate, getD-replicate, length-replicate, length-append, length-drop, List·getD-append, List·getD-eq-default}
+use lib.Dec.{eqb, ltb}
+use lib.ListN.{length, take, drop, getD-replicate, length-replicate, length-append, length-drop, List·getD-append, List·getD-eq-default}
 use lib.Seq.{take-at, length-take-le, getD-append-add, getD-take, getD-drop, ext-getD, paste}
 use borrow.Author.Tests.{le-leb, ne-eqb, ltb-true}
 use Rattle.mesh.proofs.Laws.Bools.{and-intro}
@@ -21,7 +21,7 @@ use Rattle.mesh.specs.declared.element.Tet.{Tet}
 use Rattle.mesh.specs.Words.{wordAt, zeroWords, copied, inside}
 use Rattle.mesh.specs.Sort.{sort}
 use Rattle.mesh.specs.Rows.{flat, leRow}
-use Rattle.mesh.specs.Complex.{mem, keep}
+use Rattle.mesh.specs.Complex.{keep}
 use Rattle.mesh.specs.Tests.{every, under, nodup}
 use Rattle.mesh.specs.List.{gone}
 use Rattle.mesh.specs.Element.{tets, verticesOf}

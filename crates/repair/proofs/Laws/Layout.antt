@@ -1,7 +1,6 @@
 -- The layout of `improve` in the work slice: its areas lie one behind the other, and what is written to the pairs, the edges or the area
 -- behind them changes nothing of the state. Assumes nothing.
 use mathlib.Core.Path.{_≡_, refl, sym, ap, subst, _∙_}
-use mathlib.Core.Bool.{true}
 use mathlib.Core.List.{List, [], _∷_}
 use Prim.Native.Nat.{ℕ, zero, suc, _+_, _*_, _≤_, _<_}
 use native.Mathlib.Omega.{arith}
@@ -10,13 +9,12 @@ use lib.Seq.{getD-drop}
 use Rattle.geometry.specs.declared.bounds.Options.{Options}
 use Rattle.mesh.specs.declared.star.Index.{Index}
 use Rattle.mesh.specs.Words.{wordAt}
-use Rattle.mesh.specs.Tests.{every}
-use Rattle.mesh.specs.Star.{Laid, Chains, Complete, chainOf, lengthOf}
+use Rattle.mesh.specs.Star.{Laid, Complete, chainOf, lengthOf}
 use Rattle.mesh.proofs.Laws.Star.Chains.{complete-kept}
 use Rattle.mesh.proofs.Laws.Star.Calls.{tets-same}
 use Rattle.repair.specs.Mesh.{Mesh}
 use Rattle.repair.specs.Improve.{State}
-use Rattle.repair.specs.Layout.{Room, Stands, Same, flagsAt, pairsAt, edgesAt, slotsIn, liveIn, slotOk}
+use Rattle.repair.specs.Layout.{Room, Stands, flagsAt, pairsAt, edgesAt, slotsIn, liveIn}
 
 -- the areas of the index lie one behind the other
 pub room-laid : {x : Index} {n m : ℕ} → Room x n m → Laid x m
@@ -30,7 +28,7 @@ room-laid r = record {
 }
 
 -- where the area begins does not matter to an index
-abbrev area-at : Index → ℕ → Index
+abbrev pub area-at : Index → ℕ → Index
 area-at x a = record { slots = x .slots; nexts = x .nexts; heads = x .heads; lengths = x .lengths; area = a; room = x .room; vertices = x .vertices }
 
 complete-at : (x : Index) (a : ℕ) (s : List ℕ) (k : ℕ) → Complete x s k → Complete (area-at x a) s k

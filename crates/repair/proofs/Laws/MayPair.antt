@@ -1,6 +1,6 @@
 -- The pairs of a direction: none where the stratum rule fails or the groups do not pair off, else those of the definition. Assumes nothing.
-use mathlib.Core.Path.{_≡_, refl, sym, ap, subst, _∙_}
-use mathlib.Core.Bool.{Bool, true, false, cond, _&&_}
+use mathlib.Core.Path.{_≡_, refl, sym, subst}
+use mathlib.Core.Bool.{true, false}
 use mathlib.Core.List.{List}
 use Prim.Native.Nat.{ℕ, _≤_, _<_}
 use native.Mathlib.Omega.{arith}
@@ -10,12 +10,10 @@ use mathlib.Core.Logic.{inl, inr}
 use Rattle.mesh.specs.declared.element.Pair.{Pair}
 use Rattle.mesh.specs.declared.star.Index.{Index}
 use Rattle.mesh.proofs.Laws.Parts.{side}
-use Rattle.mesh.specs.Words.{pointsOf}
-use Rattle.mesh.specs.Complex.{mem}
 use Rattle.mesh.proofs.Laws.Bools.{and-intro}
-use Rattle.repair.specs.Mesh.{Mesh, measure}
-use Rattle.repair.specs.Improve.{State, stratumRule, activeGroup, pairOff, pairsFor, partners, mayGo}
-use Rattle.repair.specs.Layout.{Stands, Same, Pairs, pairsAt, pairsIn}
+use Rattle.repair.specs.Mesh.{Mesh}
+use Rattle.repair.specs.Improve.{State, stratumRule, activeGroup, pairOff, partners, mayGo}
+use Rattle.repair.specs.Layout.{Stands, Pairs, pairsAt}
 use Rattle.repair.specs.Pairs.{Paired}
 use Rattle.repair.specs.Round.{MayPair}
 use Rattle.repair.proofs.Laws.Pairs.Found.{stands-same}

@@ -1,8 +1,8 @@
 -- `improve` on a mesh that passed intake, call by call. Assumes nothing.
 use mathlib.Core.Path.{_≡_, refl, sym, ap, ap₂, subst, _∙_}
-use mathlib.Core.Bool.{Bool, true, not, cond}
-use mathlib.Core.List.{List, [], _∷_, List·Memᴰ}
-use Prim.Native.Nat.{ℕ, zero, suc, _+_, _-_, _*_, _≤_, _<_}
+use mathlib.Core.Bool.{true, not}
+use mathlib.Core.List.{List, [], _∷_}
+use Prim.Native.Nat.{ℕ, _+_, _-_, _*_, _≤_}
 use native.Mathlib.Nat.{le-of-eq}
 use native.Mathlib.Omega.{arith}
 use lib.Dec.{eqb}
@@ -25,13 +25,11 @@ use Rattle.mesh.proofs.Laws.Star.Scan.{length-tets}
 use mathlib.Core.Logic.{inl, inr}
 use Rattle.mesh.proofs.Laws.About.Calls.{Copied, live-count, live-copied}
 use borrow.Author.Tests.{eq-eqb, eqb-true}
-use Rattle.repair.specs.declared.answer.Answer.{Answer}
-use Rattle.repair.specs.Mesh.{Mesh, measure}
+use Rattle.repair.specs.Mesh.{measure}
 use Rattle.repair.specs.Improve as def
 use Rattle.repair.specs.Layout.{Room, Stands, Reads, Ready, slotsIn, liveIn, slotOk}
 use Rattle.repair.specs.Finish.{EndArea, EndBuffers, improveEnd}
 use Rattle.repair.specs.Step.{State, meshOf, finish}
-use Rattle.repair.specs.Fitting.{Fitting}
 use Rattle.repair.proofs.Laws.Layout.{room-laid}
 
 module _ (o : Options) (s : State) (x : Index) (many : x .vertices ≡ s .sizes .vertices) where

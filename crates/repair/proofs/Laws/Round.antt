@@ -1,14 +1,13 @@
 -- A round of `improve`, turn by turn: where the labelled loops over edges, directions and pairs stand. Assumes nothing.
 use mathlib.Core.Path.{_≡_, refl, sym, ap, ap₂, subst, _∙_}
-use mathlib.Core.Logic.{_⊎_, inl, inr}
 use mathlib.Core.Bool.{Bool, true, false, not, cond, _&&_, _||_}
 use mathlib.Core.List.{List, [], _∷_, _++_, map}
-use Prim.Native.Nat.{ℕ, zero, suc, _+_, _-_, _*_, _≤_, _<_}
+use Prim.Native.Nat.{ℕ, zero, suc, _+_, _*_, _≤_, _<_}
 use native.Mathlib.Omega.{arith}
-use lib.Dec.{eqb, leb, ltb}
+use lib.Dec.{eqb, ltb}
 use lib.Ieee.{Float}
-use lib.ListN.{length, take, drop, length-append, length-map}
-use lib.Seq.{getD-drop, drop-drop}
+use lib.ListN.{length, drop, length-append, length-map}
+use lib.Seq.{getD-drop}
 use Rattle.geometry.specs.declared.bounds.Options.{Options}
 use Rattle.mesh.specs.declared.element.Pair.{Pair}
 use Rattle.mesh.specs.declared.star.Index.{Index}
@@ -20,12 +19,12 @@ use Rattle.mesh.specs.Sets.{among}
 use Rattle.repair.specs.Mesh.{Mesh, Measure, measure}
 use Rattle.repair.specs.Improve.{State, stratumRule, activeGroup, pairOk, pairOff, pairsFor, about, collapsed, gains, mayGo, go, tryEdge, tryEdges}
 use Rattle.repair.specs.Layout.{Room, Stands, Reads, Ready, Same, Pairs, flagsAt, pairsAt, edgesAt, pairsOf, pairsIn, edgesOf, edgesIn}
-use Rattle.repair.specs.Replace.{Kept, Replaces}
+use Rattle.repair.specs.Replace.{Replaces}
 use Rattle.repair.specs.Round.{below, wayOf, MayPair}
 use Rattle.mesh.proofs.Laws.Complex.Sets.{clash, and-fst, and-snd, or-right}
 use Rattle.repair.proofs.Laws.Layout.{stands-kept}
 use Rattle.repair.proofs.Laws.Replace.Pairs.{length-pairs}
-use borrow.Author.Tests.{ltb-true, ltb-false, eq-eqb}
+use borrow.Author.Tests.{ltb-true, eq-eqb}
 
 -- the first of two same lists is the same
 head-same : (f e : Pair) (l r : List Pair) → f ∷ l ≡ e ∷ r → f ≡ e

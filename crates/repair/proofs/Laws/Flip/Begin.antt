@@ -27,17 +27,13 @@ use Rattle.repair.specs.Layout.{slotOk}
 use Rattle.repair.specs.FlipLayout.{Room, facesAt, slotOf, wordsIn}
 use Rattle.repair.specs.FlipTries.{Begun, faceRowsAt, edgeRowsAt}
 use Rattle.repair.specs.FlipBegin.{FacesLaid, EdgesLaid, SlotsLaid}
+use Rattle.repair.proofs.Laws.Layout.{area-at}
 use Rattle.repair.proofs.Laws.Replace.Slots.{ok-well, well-there}
-use Rattle.repair.proofs.Laws.Flip.Layout.{room-laid}
+use Rattle.repair.proofs.Laws.Flip.Layout.{room-laid, slot-some}
 use Rattle.repair.proofs.Laws.Flip.Part.{copied-is}
-use Rattle.repair.proofs.Laws.Flip.Written.{area-at, hung-at, appended-is, slot-there}
+use Rattle.repair.proofs.Laws.Flip.Written.{short-laid, hung-at, appended-is}
 
 -- ---- the index leaves what is listed
-
-short-laid : (x : Index) (m : ℕ) → Laid x m → Laid (area-at x (facesAt x)) m
-short-laid x m l =
-    let a = l .area in let b = l .end in
-    record { few = l .few; nexts = l .nexts; heads = l .heads; lengths = l .lengths; area = (let e : facesAt x ≤ facesAt x = omega arith in e); end = omega arith }
 
 module _ (x : Index) (n : ℕ) (w : List ℕ) (l : Laid x (length w)) (hn : n ≤ x .room) where
   abbrev cleared : List ℕ
@@ -67,7 +63,7 @@ all-slots nv few [] h = (refl, refl)
 all-slots nv few (t ∷ ts) h =
     let a = and-fst (wellNumbered nv t) (every (wellNumbered nv) ts) h in
     let r = all-slots nv few ts (and-snd (wellNumbered nv t) (every (wellNumbered nv) ts) h) in
-    (ap₂ (λ (u : Option Tet) (l : List (Option Tet)). u ∷ l) (sym (slot-there t (well-there nv few t a))) (r .0), rw (ok-well nv t a) (r .1))
+    (ap₂ (λ (u : Option Tet) (l : List (Option Tet)). u ∷ l) (sym (slot-some t (well-there nv few t a))) (r .0), rw (ok-well nv t a) (r .1))
 
 module _ (x : Index) (n : ℕ) (els w u v : List ℕ) (room : Room x n (length w)) (long : 4 * n ≤ length els) (good : every (wellNumbered (x .vertices)) (tets n els) ≡ true)
     (e₁ : u ≡ copied els 0 w (x .slots) (4 * n)) (e₂ : v ≡ built x n u) where

@@ -7,45 +7,26 @@ use mathlib.Core.Option.{Option, none, some}
 use Prim.Native.Nat.{ℕ, zero, suc, _+_, _*_, _≤_, _<_}
 use native.Mathlib.Omega.{arith}
 use lib.ListN.{length, getD, set, take, length-append, length-set}
-use lib.Seq.{getD-set-other, take-set-lt}
+use lib.Seq.{getD-set-other, take-append-le, take-set-lt, getD-take}
 use Rattle.mesh.specs.declared.element.Tet.{Tet}
 use Rattle.mesh.proofs.Laws.Boundary.Same.{length-map}
 use Rattle.repair.specs.Flip.{live, emptied}
 use Rattle.repair.specs.FlipLayout.{FacesBound, EdgesBound}
-use Rattle.repair.proofs.Laws.Flip.Slots.{live-append, live-some}
+use Rattle.repair.proofs.Laws.Flip.Slots.{none-some, live-append, live-some}
 
 -- ---- one slot emptied
 
 -- a live slot emptied is one live element less
-pub live-set : (ss : List (Option Tet)) (i : ℕ) (t : Tet) → getD ss i none ≡ some t → length (live ss) ≡ length (live (set ss i none)) + 1
+live-set : (ss : List (Option Tet)) (i : ℕ) (t : Tet) → getD ss i none ≡ some t → length (live ss) ≡ length (live (set ss i none)) + 1
 unfolding live
-live-set [] i t h = absurd (never h)
-  where
-    never : none ≡ some t → ⊥
-    never z = let y : _≡_ {A = ℕ} 0 1 = cc in omega arith
-live-set (none ∷ ss) zero t h = absurd (never h)
-  where
-    never : none ≡ some t → ⊥
-    never z = let y : _≡_ {A = ℕ} 0 1 = cc in omega arith
+live-set [] i t h = absurd (none-some h)
+live-set (none ∷ ss) zero t h = absurd (none-some h)
 live-set (some u ∷ ss) zero t h = omega arith
 live-set (none ∷ ss) (suc i) t h = live-set ss i t h
 live-set (some u ∷ ss) (suc i) t h = let r = live-set ss i t h in omega arith
 
--- the first n of more slots
-pub take-more : (n : ℕ) (ss rs : List (Option Tet)) → n ≤ length ss → take n (ss ++ rs) ≡ take n ss
-take-more zero ss rs h = refl
-take-more (suc n) [] rs h = absurd (omega arith)
-take-more (suc n) (x ∷ ss) rs h = ap (λ l. x ∷ l) (take-more n ss rs (omega arith))
-
--- a place of the first n
-pub take-at : (n : ℕ) (ss : List (Option Tet)) (i : ℕ) → i < n → getD (take n ss) i none ≡ getD ss i none
-take-at zero ss i h = absurd (omega arith)
-take-at (suc n) [] i h = refl
-take-at (suc n) (x ∷ ss) zero h = refl
-take-at (suc n) (x ∷ ss) (suc i) h = take-at n ss i (omega arith)
-
 front-set : (n : ℕ) (ss : List (Option Tet)) (i : ℕ) (t : Tet) → i < n → getD ss i none ≡ some t → length (live (take n ss)) ≡ length (live (take n (set ss i none))) + 1
-front-set n ss i t g h = live-set (take n ss) i t (take-at n ss i g ∙ h) ∙ ap (λ (l : List (Option Tet)). length (live l) + 1) (sym (take-set-lt n ss i none g))
+front-set n ss i t g h = live-set (take n ss) i t (getD-take n ss i none g ∙ h) ∙ ap (λ (l : List (Option Tet)). length (live l) + 1) (sym (take-set-lt n ss i none g))
 
 live-more : (ss : List (Option Tet)) (new : List Tet) → length (live (ss ++ map some new)) ≡ length (live ss) + length new
 live-more ss new = ap length (live-append ss (map some new)) ∙ length-append (live ss) (live (map some new)) ∙ ap (λ (l : List Tet). length (live ss) + length l) (live-some new)
@@ -99,7 +80,7 @@ module _ (n : ℕ) (ss : List (Option Tet)) (b : FacesBound n ss) (i j : ℕ) (i
       let f₁ = front-set n ss i t hi ti in
       let f₂ = front-set n one j u hj uj₁ in
       let h = b .many in
-      let g = ap (λ (l : List (Option Tet)). length (live l)) (take-more n two (map some new) (omega arith)) in
+      let g = ap (λ (l : List (Option Tet)). length (live l)) (take-append-le n two (map some new) (omega arith)) in
       let p = b .slots in
       let q = b .live in
       record { many = omega arith; slots = omega arith; live = omega arith }

@@ -3,7 +3,7 @@
 use mathlib.Core.Path.{_≡_, refl, sym, ap, subst, _∙_}
 use mathlib.Core.Logic.{_≢_, inl, inr}
 use mathlib.Core.Bool.{Bool, true, false, not, cond, _&&_, _||_}
-use mathlib.Core.List.{List, [], _∷_, _++_, List·Memᴰ, List·Memᴰ·not-nil, List·Memᴰ·cases-cons, Memᴰ·of-map}
+use mathlib.Core.List.{List, [], _∷_, List·Memᴰ, List·Memᴰ·not-nil, List·Memᴰ·cases-cons, Memᴰ·of-map}
 use Prim.Native.Nat.{ℕ, _≤_}
 use native.Mathlib.Omega.{arith}
 use borrow.Author.Tests.{eqb-true, eq-eqb, leb-true, leb-false, not-true, le-leb}
@@ -26,15 +26,14 @@ use Rattle.mesh.proofs.Laws.Link.Simplices.{sort-mem}
 use Rattle.repair.specs.Mesh.{Measure, any}
 use Rattle.repair.specs.Wholeness.{Exact}
 use Rattle.repair.specs.Flip.{State, hasAll, slotHas, live, numbersWith, elementsAt, besides, replace, threeToTwo, tryEdge}
+use Rattle.repair.proofs.Laws.Site.Near.{mem-append}
 use Rattle.repair.proofs.Laws.Flip.Slots.{any-within, elements-with, length-with}
 use Rattle.repair.proofs.Laws.Flip.Replace.{Held, elementsOf, replace-held}
-use Rattle.repair.proofs.Laws.Flip.Owners.{without-elim, without-intro, star-owners, flippable32, flipped32}
+use Rattle.repair.proofs.Laws.Flip.Owners.{without-elim, without-intro, star-owners}
+use Rattle.repair.proofs.Laws.Flip.Five.{flippable32}
+use Rattle.repair.proofs.Laws.Flip.Flipped.{flipped32}
 
 -- ---- the other vertices
-
-pub mem-append : (x : ℕ) (l r : List ℕ) → mem x (l ++ r) ≡ (mem x l || mem x r)
-mem-append x [] r = refl
-mem-append x (y ∷ l) r = elim (split (eqb x y)) [ inl h ↦ rw h refl | inr h ↦ rw h (mem-append x l r) ]
 
 besides-intro : (σ : List ℕ) (ts : List Tet) (t : Tet) (x : ℕ) → List·Memᴰ t ts → mem x (verticesOf t) ≡ true → mem x σ ≡ false → mem x (besides σ ts) ≡ true
 unfolding besides

@@ -1,22 +1,21 @@
 -- The boundary of the elements in an area and its keys beside those given: what `flip_surface` answers, and what it leaves. Assumes nothing.
-use mathlib.Core.Path.{_≡_, refl, sym, ap, ap₂, _∙_}
-use mathlib.Core.Logic.{inl, inr, ⊎-elim}
+use mathlib.Core.Path.{_≡_, refl, sym, ap, _∙_}
+use mathlib.Core.Logic.{⊎-elim}
 use mathlib.Core.Bool.{Bool, true, false, cond}
-use mathlib.Core.List.{List, [], _∷_, _++_, map, append-assoc}
+use mathlib.Core.List.{List, _++_, append-assoc}
 use Prim.Native.Nat.{ℕ, _+_, _-_, _*_, _≤_}
 use native.Mathlib.Omega.{arith}
 use borrow.Author.Tests.{eqb-false}
 use borrow.Rule.Slice.PartMut.{midOf, putMid}
 use lib.Dec.{eqb}
-use lib.ListN.{length, take, drop, length-append, length-drop, length-replicate}
+use lib.ListN.{length, take, drop}
 use lib.Seq.{take-at, drop-at, take-take, length-take-le}
 use Rattle.mesh.specs.declared.element.Tet.{Tet}
 use Rattle.mesh.specs.declared.element.Triple.{Triple}
 use Rattle.mesh.specs.declared.boundary.Outcome.{Outcome}
 use Rattle.mesh.specs.declared.boundary.Outcome.the-variants.{Surface, Refused}
 use Rattle.mesh.specs.Words.{zeroWords}
-use Rattle.mesh.specs.Rows.{flat}
-use Rattle.mesh.specs.Element.{tets, cornersOf}
+use Rattle.mesh.specs.Element.{tets}
 use Rattle.mesh.specs.Boundary.{boundaryNumber, boundaryOf}
 use Rattle.mesh.specs.Surface.{triplesOf, answer, answerOf, surfaceWords, areaFits, Filled, boundaryIn}
 use Rattle.mesh.specs.Manifold.{triples}

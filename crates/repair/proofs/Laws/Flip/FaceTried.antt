@@ -6,7 +6,7 @@ use mathlib.Core.List.{List, [], _∷_, _++_, map}
 use mathlib.Core.Option.{Option, none, some}
 use Prim.Native.Nat.{ℕ, zero, suc, _+_, _≤_, _<_}
 use native.Mathlib.Omega.{arith}
-use borrow.Author.Tests.{eq-eqb, ne-eqb, lt-ltb}
+use borrow.Author.Tests.{eq-eqb, ne-eqb}
 use lib.ListN.{length, getD}
 use Rattle.mesh.specs.declared.element.Triple.{Triple}
 use Rattle.mesh.specs.declared.element.Tet.{Tet}
@@ -25,15 +25,17 @@ use Rattle.repair.specs.declared.tried.Places.{Places}
 use Rattle.repair.specs.Mesh.{Measure, any}
 use Rattle.repair.specs.Flip.{State, slotHas, emptied, elementsAt, oriented, accepted, replace, tryFace}
 use Rattle.repair.specs.Layout.{slotOk}
+use Rattle.repair.specs.Replace.{slotAt}
 use Rattle.repair.specs.Trio.{elementsOf}
 use Rattle.repair.specs.FlipLayout.{Stands, Kept, FacesBound, slotOf}
 use Rattle.repair.specs.FlipTries.{Holds, Went, Old, Start, FaceListed, placesOf}
-use Rattle.repair.proofs.Laws.Flip.Slots.{Aged, aged-emptied, aged-append}
+use Rattle.repair.proofs.Laws.Flip.Slots.{none-some, Aged, aged-emptied, aged-append}
 use Rattle.repair.proofs.Laws.Flip.Bound.{faces-room, faces-turn}
-use Rattle.repair.proofs.Laws.Flip.Layout.{slots-many}
+use Rattle.repair.proofs.Laws.Flip.Layout.{slots-many, slot-none, slot-some, kept-refl}
 use Rattle.repair.proofs.Laws.Flip.Trio.{elements-two}
-use Rattle.repair.proofs.Laws.Flip.Replaced.{kept-refl, places-two, none-some}
-use Rattle.repair.proofs.Laws.Flip.SlotRead.{Read, slot-none, slot-some, slot-well}
+use Rattle.repair.proofs.Laws.Flip.Replaced.{places-two}
+use Rattle.repair.proofs.Laws.Flip.Numbered.{four-numbered}
+use Rattle.repair.proofs.Laws.Flip.Held.{slot-read, slot-well}
 use Rattle.repair.proofs.Laws.Flip.Apex.{owners-two, one-apex, apex-out, try-none, try-first, try-second, try-both}
 
 -- ---- tests
@@ -56,11 +58,6 @@ slot-twice a b (some t) = ap (λ (q : Bool). mem a (verticesOf t) && q) (twice (
 any-twice : (a b : ℕ) (ss : List (Option Tet)) → any (slotHas (a ∷ b ∷ b ∷ [])) ss ≡ any (slotHas (a ∷ b ∷ [])) ss
 any-twice a b [] = refl
 any-twice a b (y ∷ ss) = rw (slot-twice a b y, any-twice a b ss) refl
-
--- four different vertices
-four-numbered : (n a b u v : ℕ) → a < n → b < n → u < n → v < n → a ≢ b → a ≢ u → a ≢ v → b ≢ u → b ≢ v → u ≢ v → wellNumbered n (tet a b u v) ≡ true
-four-numbered n a b u v ha hb hu hv ab au av bu bv uv =
-    rw (lt-ltb a n ha, lt-ltb b n hb, lt-ltb u n hu, lt-ltb v n hv, ne-eqb a b ab, ne-eqb a u au, ne-eqb a v av, ne-eqb b u bu, ne-eqb b v bv, ne-eqb u v uv) refl
 
 -- ---- slots of the start
 
@@ -89,7 +86,7 @@ replaced-start μ ts s is cs st l = go (accepted μ (elementsAt (s .slots) is) (
 -- ---- the trial
 
 module _ (μ : Measure) (x : Index) (n : ℕ) (t : Tried) (w : List ℕ) (ts : List Tet) (s : State) (f : Triple) (i j : ℕ) (z : Holds x n t w s) (long : length ts ≡ n)
-    (fl : FaceListed (x .vertices) ts f i j) (st : Start ts s) (bound : FacesBound n (s .slots)) (p q : Tet) (at-i : Read x w i p) (at-j : Read x w j q) where
+    (fl : FaceListed (x .vertices) ts f i j) (st : Start ts s) (bound : FacesBound n (s .slots)) (p q : Tet) (at-i : p ≡ slotAt x w i) (at-j : q ≡ slotAt x w j) where
   -- what a trial leaves
   abbrev Left : Tried → List ℕ → State → Type 0
   Left r v u = Went x n (FacesBound n) w v r u × Start ts u
@@ -112,10 +109,10 @@ module _ (μ : Measure) (x : Index) (n : ℕ) (t : Tried) (w : List ℕ) (ts : L
 
   -- what their slots hold
   read-i : (getD (s .slots) i none ≡ slotOf p) × (slotOk nv p ≡ true)
-  read-i = at-i n (t .slots) s (z .stands) (rise .2)
+  read-i = slot-read (z .stands) i (rise .2) at-i
 
   read-j : (getD (s .slots) j none ≡ slotOf q) × (slotOk nv q ≡ true)
-  read-j = at-j n (t .slots) s (z .stands) (rise .3)
+  read-j = slot-read (z .stands) j (rise .3) at-j
 
   -- nothing changed
   idle : tryFace μ ts s f ≡ s → Left t w (tryFace μ ts s f)

@@ -3,15 +3,16 @@
 use mathlib.Core.Path.{_≡_, refl, sym, ap, subst, _∙_}
 use mathlib.Core.Bool.{Bool, true, false, not, cond}
 use mathlib.Core.List.{List, [], _∷_, map}
-use mathlib.Core.Option.{Option, none, some}
-use Prim.Native.Nat.{ℕ, zero, suc, _+_, _*_, _≤_, _<_}
+use mathlib.Core.Option.{none, some}
+use Prim.Native.Nat.{ℕ, _+_, _*_, _≤_, _<_}
 use native.Mathlib.Omega.{arith}
-use lib.ListN.{length, drop}
+use lib.ListN.{length, drop, List·getD-eq-default}
 use Rattle.mesh.specs.declared.element.Tet.{Tet}
 use Rattle.mesh.specs.declared.star.Index.{Index}
 use Rattle.mesh.specs.Words.{wordAt}
 use Rattle.mesh.specs.Tests.{every}
 use Rattle.mesh.specs.Complex.{keep}
+use Rattle.mesh.specs.Element.{triple}
 use Rattle.mesh.specs.List.{gone}
 use Rattle.mesh.specs.Star.{Laid}
 use Rattle.mesh.specs.About as About
@@ -20,7 +21,7 @@ use Rattle.mesh.proofs.Laws.Star.Scan.{length-tets}
 use Rattle.mesh.proofs.Laws.Boundary.Same.{length-map}
 use Rattle.repair.specs.Flip.{State, live}
 use Rattle.repair.specs.Layout.{Same, slotOk}
-use Rattle.repair.specs.FlipLayout.{Room, Stands, Kept, facesAt, slotOf, wordsIn}
+use Rattle.repair.specs.FlipLayout.{Room, Stands, Kept, slotOf, wordsIn, tripleAt}
 
 -- the areas of the index lie one behind the other
 pub room-laid : {x : Index} {n m : ℕ} → Room x n m → Laid x m
@@ -31,6 +32,15 @@ room-laid r =
 -- the area has room for 132 words an element
 pub area-long : {x : Index} {n m : ℕ} → Room x n m → x .area + 132 * n + 30 * x .vertices + 1024 ≤ m
 area-long r = let f = r .lengths in let g = r .area in let h = r .long in omega arith
+
+-- nothing in a slot, or an element
+pub slot-none : (t : Tet) → gone t ≡ true → slotOf t ≡ none
+unfolding slotOf
+slot-none t h = rw h refl
+
+pub slot-some : (t : Tet) → gone t ≡ false → slotOf t ≡ some t
+unfolding slotOf
+slot-some t h = rw h refl
 
 -- the live elements are those of the slots that are not gone
 pub live-slots : (ts : List Tet) → live (map slotOf ts) ≡ keep About.live ts
@@ -64,9 +74,19 @@ module _ {x : Index} {n c : ℕ} {w : List ℕ} {s : State} (z : Stands x n c w 
         index = answered-complete x w c l (z .fits) (z .index) t (k .before);
       }
 
--- what is listed stays where only words of the area changed
+-- what is listed stays where nothing changed, and where only words of the area did
+pub kept-refl : {x : Index} {w : List ℕ} → Kept x w w
+kept-refl = record { long = refl; listed = λ j a b. refl }
+
 pub kept-area : {x : Index} {w t : List ℕ} → Same w t (x .area) (length w) → Kept x w t
 kept-area k = record { long = k .long; listed = λ j a b. k .before j b }
 
 pub kept-trans : {x : Index} {w t u : List ℕ} → Kept x w t → Kept x t u → Kept x w u
 kept-trans p q = record { long = q .long ∙ p .long; listed = λ j a b. q .listed j a b ∙ p .listed j a b }
+
+-- a triple past the end
+pub triple-past : (w : List ℕ) (p : ℕ) → length w < p → triple 0 0 0 ≡ tripleAt w p
+triple-past w p h = sym (rw (past p (omega arith), past (p + 1) (omega arith), past (p + 2) (omega arith)) refl)
+  where
+    past : (i : ℕ) → length w ≤ i → wordAt w i ≡ 0
+    past i l = List·getD-eq-default w 0 l

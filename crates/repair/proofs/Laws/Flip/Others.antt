@@ -1,5 +1,5 @@
--- The vertices of elements besides those of an edge: put one behind the other, in order, each once, at an area's front; and what they make
--- with a vertex of the edge. Assumes nothing.
+-- The vertices of elements besides those of an edge: put one behind the other, in order, each once, at an area's front. Assumes
+-- nothing.
 use mathlib.Core.Path.{_≡_, refl, sym, ap, ap₂, subst, _∙_}
 use mathlib.Core.Logic.{inl, inr}
 use mathlib.Core.Bool.{Bool, true, false, not, cond}
@@ -7,21 +7,21 @@ use mathlib.Core.List.{List, [], _∷_, _++_, append-assoc, append-nil, List·Me
 use Prim.Native.Nat.{ℕ, _+_, _-_, _≤_, _<_}
 use native.Mathlib.Nat.{add-zero}
 use native.Mathlib.Omega.{arith}
-use borrow.Author.Tests.{eq-eqb, ne-eqb, lt-ltb}
+use borrow.Author.Tests.{eq-eqb, ne-eqb}
 use borrow.Rule.Slice.PartMut.{midOf, postOf, putMid}
-use lib.ListN.{length, take, drop, set, length-append, List·getD-eq-default}
-use lib.Seq.{length-take-le, take-all, take-at, drop-at, take-append-le}
+use lib.ListN.{length, getD, take, drop, set, length-append}
+use lib.Seq.{getD-take, getD-drop, length-take-le, take-all, take-at, drop-at, take-append-le}
 use Rattle.mesh.specs.declared.element.Pair.{Pair}
+use Rattle.mesh.specs.declared.element.Triple.{Triple}
 use Rattle.mesh.specs.declared.element.Tet.{Tet}
 use Rattle.mesh.specs.Words.{wordAt}
-use Rattle.mesh.specs.Complex.{mem, Nodup}
+use Rattle.mesh.specs.Complex.{mem}
 use Rattle.mesh.specs.Rows.{sortedArea, uniqueRows, uniqueArea}
-use Rattle.mesh.specs.Element.{triple, tet, verticesOf}
-use Rattle.mesh.specs.Intake.{wellNumbered}
+use Rattle.mesh.specs.Element.{verticesOf}
 use Rattle.mesh.specs.Link.{without}
 use Rattle.mesh.specs.Star.{written, distinct}
 use Rattle.mesh.proofs.Laws.Parts.{side}
-use Rattle.mesh.proofs.Laws.Complex.Sets.{or-cases, mem-nil, out-head, out-tail}
+use Rattle.mesh.proofs.Laws.Complex.Sets.{or-cases, mem-nil}
 use Rattle.mesh.proofs.Laws.Star.Singles.{kinds-count, kinds-area}
 use Rattle.mesh.proofs.Laws.Star.Written.{length-written, written-part, written-more, written-none, written-one}
 use Rattle.repair.specs.Flip.{besides}
@@ -29,15 +29,9 @@ use Rattle.repair.specs.FlipLayout.{tripleAt}
 use Rattle.repair.specs.FlipTries.{edgeRow}
 use Rattle.repair.specs.FlipEdge.{othersOf, Puts, ListedAt}
 use Rattle.repair.proofs.Laws.Same.{same-wider, same-put}
+use Rattle.repair.proofs.Laws.Site.Near.{mem-append}
 use Rattle.repair.proofs.Laws.Flip.Owners.{without-elim}
-use Rattle.repair.proofs.Laws.Flip.Edge.{mem-append}
-
--- three words past the end
-pub three-past : (w : List ℕ) (a : ℕ) → length w < a → triple 0 0 0 ≡ tripleAt w a
-three-past w a h = sym (rw (past a (omega arith), past (a + 1) (omega arith), past (a + 2) (omega arith)) refl)
-  where
-    past : (i : ℕ) → length w ≤ i → wordAt w i ≡ 0
-    past i l = List·getD-eq-default w 0 l
+use Rattle.repair.proofs.Laws.Flip.Edge.{three-of}
 
 -- ---- words behind words
 
@@ -147,6 +141,12 @@ part-listed w a l p r h g k = record {
 
 -- ---- what they are
 
+-- three words at a are the list that stands there
+pub words-three : (l v : List ℕ) (a k : ℕ) → k ≡ length l → take k (drop a v) ≡ l → k ≡ 3 → (f : Triple) → f ≡ tripleAt v a → l ≡ f .a ∷ f .b ∷ f .c ∷ []
+words-three l v a k ek el k3 f ef =
+    let at : (j : ℕ) → j < 3 → getD l j 0 ≡ wordAt v (a + j) = λ j g. ap (λ (m : List ℕ). getD m j 0) (sym el) ∙ getD-take k (drop a v) j 0 (omega arith) ∙ getD-drop a v j 0 in
+    three-of l (sym ek ∙ k3) ∙ rw (at 0 (omega arith), at 1 (omega arith), at 2 (omega arith), add-zero a, ef) refl
+
 -- an element that has a vertex besides σ
 pub besides-elim : (σ : List ℕ) (ts : List Tet) (x : ℕ) → mem x (besides σ ts) ≡ true → (t : Tet) × List·Memᴰ t ts × (mem x (verticesOf t) ≡ true)
 unfolding besides
@@ -156,22 +156,3 @@ besides-elim σ (t ∷ ts) x m =
       | inl h ↦ (t, List·Memᴰ·head refl, without-elim σ (verticesOf t) x h .0)
       | inr h ↦ let r = besides-elim σ ts x h in (r .0, List·Memᴰ·tail (r .1), r .2)
     ]
-
--- a face and a vertex besides it
-pub well-made : (nv u v w d : ℕ) → Nodup (u ∷ v ∷ w ∷ []) → u < nv → v < nv → w < nv → d < nv → mem d (u ∷ v ∷ w ∷ []) ≡ false → wellNumbered nv (tet u v w d) ≡ true
-well-made nv u v w d r hu hv hw hd o =
-    let du = out-head d u (v ∷ w ∷ []) o in
-    let dv = out-head d v (w ∷ []) (out-tail d u (v ∷ w ∷ []) o) in
-    let dw = out-head d w [] (out-tail d v (w ∷ []) (out-tail d u (v ∷ w ∷ []) o)) in
-    rw (
-      lt-ltb u nv hu,
-      lt-ltb v nv hv,
-      lt-ltb w nv hw,
-      lt-ltb d nv hd,
-      ne-eqb u v (out-head u v (w ∷ []) (r .0)),
-      ne-eqb u w (out-head u w [] (out-tail u v (w ∷ []) (r .0))),
-      ne-eqb u d (λ q. du (sym q)),
-      ne-eqb v w (out-head v w [] (r .1 .0)),
-      ne-eqb v d (λ q. dv (sym q)),
-      ne-eqb w d (λ q. dw (sym q)),
-    ) refl

@@ -1,33 +1,28 @@
 -- The elements that own a face or an edge. Two elements with the face u v w have different apexes a and b and may be flipped to three;
--- three elements about the edge a b with three other vertices in all are those of each two of the three, and may be flipped to two.
--- Assumes nothing.
+-- three elements about the edge a b with three other vertices in all are those of each two of the three. Assumes nothing.
 use mathlib.Core.Path.{_≡_, refl, sym, ap, subst, _∙_}
 use mathlib.Core.Logic.{_≢_, inl, inr}
 use mathlib.Core.Bool.{Bool, true, false, not, _&&_, _||_}
 use mathlib.Core.List.{List, [], _∷_, _++_, map, List·Memᴰ, List·Memᴰ·head, List·Memᴰ·tail, List·Memᴰ·not-nil, List·Memᴰ·cases-cons}
 use Prim.Native.Nat.{ℕ, _+_, _≤_}
 use native.Mathlib.Omega.{arith}
-use borrow.Author.Tests.{eq-eqb, ne-eqb, not-true}
+use borrow.Author.Tests.{not-true}
 use lib.Dec.{eqb}
 use lib.ListN.{length}
 use Rattle.mesh.specs.declared.element.Tet.{Tet}
 use Rattle.mesh.specs.Complex.{mem, sub, within, keep, star, Nodup, Sub, IsElement, Proper}
-use Rattle.mesh.specs.Moves.{Flippable23, Flippable32}
+use Rattle.mesh.specs.Moves.{Flippable23}
 use Rattle.mesh.specs.Tests.{every}
-use Rattle.mesh.specs.Element.{tet, verticesOf}
+use Rattle.mesh.specs.Element.{verticesOf}
 use Rattle.mesh.specs.Link.{without}
 use Rattle.mesh.proofs.Laws.Complex.Sets.{split, clash, nope, and-fst, and-snd, mem-here, mem-there, mem-cases, mem-nil, out, out-head, out-tail, Sub-cons, sub-elim, within-elim, within-intro, short, full, keep-mem, keep-nodup}
 use Rattle.mesh.proofs.Laws.Complex.Lists.{keep-split}
 use Rattle.mesh.proofs.Laws.Complex.Same.{proper-keep}
 use Rattle.mesh.proofs.Laws.Complex.Tets.{tet-of, whole}
-use Rattle.mesh.proofs.Laws.Complex.Flip.{flip23-proper, flip23-count, flip32-proper, flip32-count}
 use Rattle.mesh.proofs.Laws.Link.Members.{kept-elim}
 use Rattle.mesh.proofs.Laws.Boundary.Same.{keep-map, length-map}
-use Rattle.mesh.proofs.Laws.Link.Closed.{AtMostTwo}
-use Rattle.repair.specs.Mesh.{Measure}
-use Rattle.repair.specs.Flip.{hasAll, oriented}
-use Rattle.repair.proofs.Laws.Flip.Triangles.{lose, star-none, thin23, thin32}
-use Rattle.repair.proofs.Laws.Flip.Replace.{AsGood, two-to-three, three-to-two, turned, all-turned, rearranged}
+use Rattle.repair.specs.Flip.{hasAll}
+use Rattle.repair.proofs.Laws.Flip.Triangles.{lose, star-none}
 
 -- ---- vertices besides σ
 
@@ -158,7 +153,7 @@ keep-mono p q (e ∷ es) h =
     ]
 
 -- three elements about a b within a b x y z: one of them has x and y
-third : (n a b x y z : ℕ) (es : List (List ℕ)) → Proper n es → star (a ∷ b ∷ []) es ≡ 3 → Nodup (a ∷ b ∷ z ∷ x ∷ []) → Nodup (a ∷ b ∷ z ∷ y ∷ [])
+pub third : (n a b x y z : ℕ) (es : List (List ℕ)) → Proper n es → star (a ∷ b ∷ []) es ≡ 3 → Nodup (a ∷ b ∷ z ∷ x ∷ []) → Nodup (a ∷ b ∷ z ∷ y ∷ [])
     → every (λ k. eqb k z || mem k (a ∷ b ∷ x ∷ y ∷ [])) (a ∷ b ∷ x ∷ y ∷ z ∷ []) ≡ true
     → every (λ k. eqb k x || mem k (a ∷ b ∷ y ∷ z ∷ [])) (a ∷ b ∷ x ∷ y ∷ z ∷ []) ≡ true
     → every (λ k. eqb k y || mem k (a ∷ b ∷ z ∷ [])) (a ∷ b ∷ y ∷ z ∷ []) ≡ true
@@ -203,116 +198,3 @@ third n a b x y z es P three dx dy loseZ loseX loseY all = elim (split (within (
           star-four n (a ∷ b ∷ z ∷ x ∷ []) es P refl dx,
           star-four n (a ∷ b ∷ z ∷ y ∷ []) es P refl dy,
         )
-
-eq : (x : ℕ) → eqb x x ≡ true
-eq x = eq-eqb x x refl
-
-module _ (a b u v w : ℕ) (five : Nodup (a ∷ b ∷ u ∷ v ∷ w ∷ [])) where
-  a-b : eqb a b ≡ false
-  a-b = ne-eqb a b (out-head a b (u ∷ v ∷ w ∷ []) (five .0))
-
-  b-a : eqb b a ≡ false
-  b-a = ne-eqb b a (λ q. out-head a b (u ∷ v ∷ w ∷ []) (five .0) (sym q))
-
-  a-u : eqb a u ≡ false
-  a-u = ne-eqb a u (out-head a u (v ∷ w ∷ []) (out-tail a b (u ∷ v ∷ w ∷ []) (five .0)))
-
-  u-a : eqb u a ≡ false
-  u-a = ne-eqb u a (λ q. out-head a u (v ∷ w ∷ []) (out-tail a b (u ∷ v ∷ w ∷ []) (five .0)) (sym q))
-
-  a-v : eqb a v ≡ false
-  a-v = ne-eqb a v (out-head a v (w ∷ []) (out-tail a u (v ∷ w ∷ []) (out-tail a b (u ∷ v ∷ w ∷ []) (five .0))))
-
-  v-a : eqb v a ≡ false
-  v-a = ne-eqb v a (λ q. out-head a v (w ∷ []) (out-tail a u (v ∷ w ∷ []) (out-tail a b (u ∷ v ∷ w ∷ []) (five .0))) (sym q))
-
-  a-w : eqb a w ≡ false
-  a-w = ne-eqb a w (out-head a w [] (out-tail a v (w ∷ []) (out-tail a u (v ∷ w ∷ []) (out-tail a b (u ∷ v ∷ w ∷ []) (five .0)))))
-
-  w-a : eqb w a ≡ false
-  w-a = ne-eqb w a (λ q. out-head a w [] (out-tail a v (w ∷ []) (out-tail a u (v ∷ w ∷ []) (out-tail a b (u ∷ v ∷ w ∷ []) (five .0)))) (sym q))
-
-  b-u : eqb b u ≡ false
-  b-u = ne-eqb b u (out-head b u (v ∷ w ∷ []) (five .1 .0))
-
-  u-b : eqb u b ≡ false
-  u-b = ne-eqb u b (λ q. out-head b u (v ∷ w ∷ []) (five .1 .0) (sym q))
-
-  b-v : eqb b v ≡ false
-  b-v = ne-eqb b v (out-head b v (w ∷ []) (out-tail b u (v ∷ w ∷ []) (five .1 .0)))
-
-  v-b : eqb v b ≡ false
-  v-b = ne-eqb v b (λ q. out-head b v (w ∷ []) (out-tail b u (v ∷ w ∷ []) (five .1 .0)) (sym q))
-
-  b-w : eqb b w ≡ false
-  b-w = ne-eqb b w (out-head b w [] (out-tail b v (w ∷ []) (out-tail b u (v ∷ w ∷ []) (five .1 .0))))
-
-  w-b : eqb w b ≡ false
-  w-b = ne-eqb w b (λ q. out-head b w [] (out-tail b v (w ∷ []) (out-tail b u (v ∷ w ∷ []) (five .1 .0))) (sym q))
-
-  u-v : eqb u v ≡ false
-  u-v = ne-eqb u v (out-head u v (w ∷ []) (five .1 .1 .0))
-
-  v-u : eqb v u ≡ false
-  v-u = ne-eqb v u (λ q. out-head u v (w ∷ []) (five .1 .1 .0) (sym q))
-
-  u-w : eqb u w ≡ false
-  u-w = ne-eqb u w (out-head u w [] (out-tail u v (w ∷ []) (five .1 .1 .0)))
-
-  w-u : eqb w u ≡ false
-  w-u = ne-eqb w u (λ q. out-head u w [] (out-tail u v (w ∷ []) (five .1 .1 .0)) (sym q))
-
-  v-w : eqb v w ≡ false
-  v-w = ne-eqb v w (out-head v w [] (five .1 .1 .1 .0))
-
-  w-v : eqb w v ≡ false
-  w-v = ne-eqb w v (λ q. out-head v w [] (five .1 .1 .1 .0) (sym q))
-
-  ruleset known = (eq, a-b, b-a, a-u, u-a, a-v, v-a, a-w, w-a, b-u, u-b, b-v, v-b, b-w, w-b, u-v, v-u, u-w, w-u, v-w, w-v)
-
-  pub flippable32 : (n : ℕ) (es : List (List ℕ)) → Proper n es → star (a ∷ b ∷ []) es ≡ 3
-      → ((e : List ℕ) → List·Memᴰ e es → sub (a ∷ b ∷ []) e ≡ true → Sub e (a ∷ b ∷ u ∷ v ∷ w ∷ [])) → within (u ∷ v ∷ w ∷ []) es ≡ false → Flippable32 a b u v w es
-  flippable32 n es P three all free = record {
-    five = five;
-    atUV = third n a b u v w es P three (simp known, (simp known, (simp known, (refl, tt)))) (simp known, (simp known, (simp known, (refl, tt)))) (simp known) (simp known) (simp known) all;
-    atVW = third n a b v w u es P three (simp known, (simp known, (simp known, (refl, tt)))) (simp known, (simp known, (simp known, (refl, tt)))) (simp known) (simp known) (simp known)
-        (λ e m h z i. sub-elim (a ∷ b ∷ u ∷ v ∷ w ∷ []) (a ∷ b ∷ v ∷ w ∷ u ∷ []) (simp known) z (all e m h z i));
-    atWU = third n a b w u v es P three (simp known, (simp known, (simp known, (refl, tt)))) (simp known, (simp known, (simp known, (refl, tt)))) (simp known) (simp known) (simp known)
-        (λ e m h z i. sub-elim (a ∷ b ∷ u ∷ v ∷ w ∷ []) (a ∷ b ∷ w ∷ u ∷ v ∷ []) (simp known) z (all e m h z i));
-    only = three;
-    free = free;
-  }
-
--- ---- the lists after a flip
-
-module _ (μ : Measure) (n a b u v w : ℕ) (es : List (List ℕ)) (P : Proper n es) (thin : AtMostTwo es) where
-  pub flipped23 : Flippable23 a b u v w es
-      → AsGood n es (keep (λ e. not (sub (u ∷ v ∷ w ∷ []) e)) es ++ map verticesOf (map (oriented μ) (tet a b u v ∷ tet a b v w ∷ tet a b w u ∷ [])))
-  flipped23 c =
-      let ts = tet a b u v ∷ tet a b v w ∷ tet a b w u ∷ [] in
-      let R = keep (λ e. not (sub (u ∷ v ∷ w ∷ []) e)) es in
-      let r = rearranged n (map verticesOf ts) (map verticesOf (map (oriented μ) ts)) R (all-turned μ ts) (flip23-proper a b u v w (c .five) n es P c) in
-      let k = flip23-count a b u v w (c .five) n es P c in
-      let l = r .1 in
-      record {
-        proper = r .0;
-        count = omega arith;
-        flip = two-to-three a b u v w c (r .2);
-        thin = thin23 a b u v w (c .five) es c thin (verticesOf (oriented μ (tet a b u v))) (verticesOf (oriented μ (tet a b v w))) (verticesOf (oriented μ (tet a b w u)))
-            (turned μ (tet a b u v) .alike) (turned μ (tet a b v w) .alike) (turned μ (tet a b w u) .alike);
-      }
-
-  pub flipped32 : Flippable32 a b u v w es
-      → AsGood n es (keep (λ e. not (sub (a ∷ b ∷ []) e)) es ++ map verticesOf (map (oriented μ) (tet u v w a ∷ tet u v w b ∷ [])))
-  flipped32 c =
-      let ts = tet u v w a ∷ tet u v w b ∷ [] in
-      let R = keep (λ e. not (sub (a ∷ b ∷ []) e)) es in
-      let r = rearranged n (map verticesOf ts) (map verticesOf (map (oriented μ) ts)) R (all-turned μ ts) (flip32-proper a b u v w (c .five) n es P c) in
-      let k = flip32-count a b u v w (c .five) n es P c in
-      let l = r .1 in
-      record {
-        proper = r .0;
-        count = omega arith;
-        flip = three-to-two a b u v w c (r .2);
-        thin = thin32 a b u v w (c .five) es c thin (verticesOf (oriented μ (tet u v w a))) (verticesOf (oriented μ (tet u v w b))) (turned μ (tet u v w a) .alike) (turned μ (tet u v w b) .alike);
-      }

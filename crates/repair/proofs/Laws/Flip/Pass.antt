@@ -20,17 +20,16 @@ use Rattle.mesh.specs.Complex.{Proper, SameCount, alternating}
 use Rattle.mesh.specs.Tests.{every}
 use Rattle.mesh.specs.Element.{tet, verticesOf, cornersOf, keyOf}
 use Rattle.mesh.specs.Boundary.{allFaces, withKey, boundaryNumber, boundaryOf}
-use Rattle.mesh.specs.Surface as Surface
 use Rattle.mesh.proofs.Laws.Complex.Sets.{and-fst, and-snd}
 use Rattle.mesh.proofs.Laws.Complex.Steps.{same-alternating}
-use Rattle.mesh.proofs.Laws.Boundary.Meaning.{fine}
 use Rattle.mesh.proofs.Laws.Link.Simplices.{rising, rising-nodup}
 use Rattle.mesh.proofs.Laws.Link.Keys.{proper-fours}
 use Rattle.mesh.proofs.Laws.Link.Closed.{AtMostTwo, boundary-two}
 use Rattle.repair.specs.Mesh.{Mesh, made, refused, Measure, measure, determinantOf, scoreOf, lowestOf}
-use Rattle.repair.specs.Wholeness.{Exact, OneOrTwo, one, two}
+use Rattle.repair.specs.Wholeness.{Exact, OneOrTwo}
 use Rattle.repair.specs.Flip.{State, live, listedFaces, listedEdges, tryFace, tryFaces, tryEdge, tryEdges, flips, sameTriples, sortedKeys, endNumber, flip}
 use Rattle.repair.proofs.Laws.Smooth.Scores.{AllNear, score-exact, lowest-exact, lowest-one, lowest-under, lowest-over, no-loss}
+use Rattle.repair.proofs.Laws.Improve.Triangles.{boundary-triangles}
 use Rattle.repair.proofs.Laws.Flip.Slots.{Aged, aged-start, live-some}
 use Rattle.repair.proofs.Laws.Flip.Replace.{Held, Chain}
 use Rattle.repair.proofs.Laws.Flip.Listed.{faces-rise, ends-differ}
@@ -86,14 +85,6 @@ end-fine given ts h = go (eqb (boundaryNumber ts) 0) refl h
     go : (b : Bool) → eqb (boundaryNumber ts) 0 ≡ b → cond b (cond (sameTriples (sortedKeys (boundaryOf ts)) (sortedKeys given)) 0 23) (boundaryNumber ts) ≡ 0 → boundaryNumber ts ≡ 0
     go true e k = eqb-true (boundaryNumber ts) 0 e
     go false e k = k
-
--- one face of a key, or two with opposite parity
-pub one-or-two : (ts : List Tet) → boundaryNumber ts ≡ 0 → (f : Triple) → List·Memᴰ f (allFaces ts) → OneOrTwo (withKey (keyOf f) (allFaces ts))
-one-or-two ts h f m = go (withKey (keyOf f) (allFaces ts)) (fine ts h f m)
-  where
-    go : (l : List Triple) → Surface.OneOrTwo l → OneOrTwo l
-    go l (Surface.one f) = one f
-    go l (Surface.two f g d) = two f g d
 
 -- the mesh m′ that `flip` makes of m, and its count
 pub record Flipped (m m′ : Mesh) (count : ℕ) : Type 0 where
@@ -160,7 +151,7 @@ flip-keeps m near P whole upright count m′ h = go (eqb (endNumber (m .surface)
       masks = refl;
       proper = held .proper;
       alternates = sym (same-alternating (length (m .points)) (map verticesOf (m .elements)) (length (m .points)) (map verticesOf ts) (held .count));
-      triangles = one-or-two ts (end-fine (m .surface) ts (eqb-true (endNumber (m .surface) ts) 0 e));
+      triangles = boundary-triangles ts (end-fine (m .surface) ts (eqb-true (endNumber (m .surface) ts) 0 e));
       surface = refl;
       determinants = held .upright;
       scores = held .floor;

@@ -44,7 +44,6 @@ module _ (c : Call) (s : State) (work : List ℕ) (floats : List Float) (words :
         slots = f .buffers .elements;
         surface = f .buffers .surface;
         long = f .long;
-        zeros = f .zeros;
         numbered = f .numbered;
       }
 

@@ -1,7 +1,7 @@
 -- `replace` in the work slice: the slots emptied and added one by one stand for the state of specs/Flip.antt. Assumes nothing.
 use mathlib.Core.Path.{_≡_, refl, sym, ap, subst, _∙_}
-use mathlib.Core.Bool.{Bool, true, false, not, cond, _&&_}
-use mathlib.Core.List.{List, [], _∷_, _++_, map}
+use mathlib.Core.Bool.{Bool, true, false, cond}
+use mathlib.Core.List.{List, [], _∷_, _++_, map, append-nil}
 use mathlib.Core.Option.{Option, none, some}
 use Prim.Native.Nat.{ℕ, zero, suc, _+_, _≤_, _<_}
 use native.Mathlib.Omega.{arith}
@@ -11,11 +11,9 @@ use lib.ListN.{length, getD, set}
 use lib.Seq.{append-snoc}
 use Rattle.mesh.specs.declared.element.Tet.{Tet}
 use Rattle.mesh.specs.declared.star.Index.{Index}
-use Rattle.mesh.specs.Complex.{IsElement}
 use Rattle.mesh.specs.Tests.{every, under}
-use Rattle.mesh.specs.Element.{verticesOf}
 use Rattle.mesh.specs.Intake.{wellNumbered}
-use Rattle.mesh.proofs.Laws.Complex.Sets.{and-fst, and-snd, mem-here, mem-there}
+use Rattle.mesh.proofs.Laws.Complex.Sets.{and-fst, and-snd}
 use Rattle.mesh.proofs.Laws.Boundary.Same.{length-map}
 use Rattle.repair.specs.declared.orient.Trio.{Trio}
 use Rattle.repair.specs.declared.tried.Tried.{Tried}
@@ -26,15 +24,10 @@ use Rattle.repair.specs.Trio.{elementsOf}
 use Rattle.repair.specs.FlipLayout.{Stands, Kept}
 use Rattle.repair.specs.FlipTries.{Holds, Counted, Counts, Old, placesOf}
 use Rattle.repair.specs.FlipReplace.{Empties, Adds}
-use Rattle.repair.proofs.Laws.Improve.Intake.{numbered-element}
-use Rattle.repair.proofs.Laws.Flip.Slots.{live-some}
-use Rattle.repair.proofs.Laws.Flip.Replace.{turned}
+use Rattle.repair.proofs.Laws.Flip.Slots.{none-some, live-some}
+use Rattle.repair.proofs.Laws.Flip.Numbered.{oriented-numbered}
 use Rattle.repair.proofs.Laws.Flip.Trio.{elements-two, elements-three}
-use Rattle.repair.proofs.Laws.Flip.Layout.{kept-trans, slots-many}
-
--- what is listed stays where nothing changed
-pub kept-refl : {x : Index} {w : List ℕ} → Kept x w w
-kept-refl = record { long = refl; listed = λ j a b. refl }
+use Rattle.repair.proofs.Laws.Flip.Layout.{kept-refl, kept-trans, slots-many}
 
 -- ---- slots one by one
 
@@ -81,11 +74,7 @@ AddsOne x c t w u =
 adds-none : {x : Index} {c : ℕ} {w : List ℕ} → Adds x c [] w w
 adds-none {x} {c} {w} n s h ok z =
     let e : c ≡ c + 0 = omega arith in
-    (subst (λ (k : ℕ). Stands x n k w (record { slots = s .slots ++ []; flips = s .flips })) e (subst (λ (l : List (Option Tet)). Stands x n c w (record { slots = l; flips = s .flips })) (sym (append-none (s .slots))) z), kept-refl)
-  where
-    append-none : (l : List (Option Tet)) → l ++ [] ≡ l
-    append-none [] = refl
-    append-none (a ∷ l) = ap (λ k. a ∷ k) (append-none l)
+    (subst (λ (k : ℕ). Stands x n k w (record { slots = s .slots ++ []; flips = s .flips })) e (subst (λ (l : List (Option Tet)). Stands x n c w (record { slots = l; flips = s .flips })) (sym (append-nil (s .slots))) z), kept-refl)
 
 adds-more : {x : Index} (c d : ℕ) (t : Tet) (ts : List Tet) {w u v : List ℕ} → d ≡ c + 1 → AddsOne x c t w u → Adds x d ts u v → Adds x c (t ∷ ts) w v
 adds-more {x} c d t ts {w} {u} {v} e first rest n s h ok z =
@@ -126,38 +115,7 @@ counts-same k = record { slots = k .slots; flips = omega arith }
 pub counts-more : {x : Index} {t : Tried} → Counted x t → (k : ℕ) → t .slots + k ≤ x .room → Counts t (record { slots = t .slots + k; flips = t .flips + 1 })
 counts-more q k h = let a = q .room in record { slots = omega arith; flips = omega arith }
 
--- ---- the candidates, oriented
-
--- four different vertices below n
-element-numbered : (n : ℕ) (t : Tet) → IsElement n (verticesOf t) → wellNumbered n t ≡ true
-element-numbered n t e =
-    let l = e .below in
-    let d = e .distinct in
-    rw (
-      lt-ltb (t .a) n (l (t .a) (mem-here (t .a) (t .b ∷ t .c ∷ t .d ∷ []))),
-      lt-ltb (t .b) n (l (t .b) (mem-there (t .b) (t .a) (t .b ∷ t .c ∷ t .d ∷ []) (mem-here (t .b) (t .c ∷ t .d ∷ [])))),
-      lt-ltb (t .c) n (l (t .c) (mem-there (t .c) (t .a) (t .b ∷ t .c ∷ t .d ∷ []) (mem-there (t .c) (t .b) (t .c ∷ t .d ∷ []) (mem-here (t .c) (t .d ∷ []))))),
-      lt-ltb (t .d) n (l (t .d) (mem-there (t .d) (t .a) (t .b ∷ t .c ∷ t .d ∷ []) (mem-there (t .d) (t .b) (t .c ∷ t .d ∷ []) (mem-there (t .d) (t .c) (t .d ∷ []) (mem-here (t .d) []))))),
-      d .0,
-      d .1 .0,
-      d .1 .1 .0,
-    ) refl
-
--- oriented elements have four different vertices
-oriented-numbered : (μ : Measure) (n : ℕ) (ts : List Tet) → every (wellNumbered n) ts ≡ true → every (wellNumbered n) (map (oriented μ) ts) ≡ true
-oriented-numbered μ n [] h = refl
-oriented-numbered μ n (t ∷ ts) h =
-    let a = element-numbered n (oriented μ t) (turned μ t .element n (numbered-element n t (and-fst (wellNumbered n t) (every (wellNumbered n) ts) h))) in
-    let b = oriented-numbered μ n ts (and-snd (wellNumbered n t) (every (wellNumbered n) ts) h) in
-    both (wellNumbered n (oriented μ t)) (every (wellNumbered n) (map (oriented μ) ts)) a b
-  where
-    both : (p q : Bool) → p ≡ true → q ≡ true → (p && q) ≡ true
-    both p q hp hq = rw (hp, hq) refl
-
 -- ---- the old elements
-
-pub none-some : {t : Tet} → none ≡ some t → ⊥
-none-some h = let y : _≡_ {A = ℕ} 0 1 = cc in omega arith
 
 -- a number with an element is that of a slot
 at-under : (ss : List (Option Tet)) (i : ℕ) (t : Tet) → getD ss i none ≡ some t → i < length ss

@@ -22,6 +22,10 @@ use Rattle.repair.proofs.Laws.Smooth.Placed.{set-cases}
 
 -- ---- live elements
 
+-- a slot with an element is not empty
+pub none-some : {t : Tet} → none ≡ some t → ⊥
+none-some h = let y : _≡_ {A = ℕ} 0 1 = cc in omega arith
+
 pub live-append : (ss rs : List (Option Tet)) → live (ss ++ rs) ≡ live ss ++ live rs
 unfolding live
 live-append [] rs = refl
@@ -36,14 +40,8 @@ live-some (t ∷ ts) = ap (λ l. t ∷ l) (live-some ts)
 -- the element of a number is live
 pub at-live : (ss : List (Option Tet)) (i : ℕ) (t : Tet) → getD ss i none ≡ some t → List·Memᴰ t (live ss)
 unfolding live
-at-live [] i t h = absurd (never t h)
-  where
-    never : (t : Tet) → none ≡ some t → ⊥
-    never t h = let y : _≡_ {A = ℕ} 0 1 = cc in omega arith
-at-live (none ∷ ss) zero t h = absurd (never t h)
-  where
-    never : (t : Tet) → none ≡ some t → ⊥
-    never t h = let y : _≡_ {A = ℕ} 0 1 = cc in omega arith
+at-live [] i t h = absurd (none-some h)
+at-live (none ∷ ss) zero t h = absurd (none-some h)
 at-live (some u ∷ ss) zero t h = List·Memᴰ·head (the u t h)
   where
     the : (u t : Tet) → some u ≡ some t → t ≡ u

@@ -128,9 +128,6 @@ module _ {x : Index} {n count : ℕ} {ps : List Float} {w₀ : List ℕ} (room :
         reached-end (q .reached ts fs s y) (λ u. refl) (omega arith)
 
     module _ (h : i < count) where
-      pub face-room : faceRowsAt x n + 5 * i + 5 ≤ length w
-      face-room = (let a = room .lengths in let b = room .long in let c = q .long in omega arith)
-
       module _ (f : Triple) (a b : ℕ) (ef : f ≡ tripleAt w (faceRowsAt x n + 5 * i)) (ea : a ≡ wordAt w (faceRowsAt x n + 5 * i + 3)) (eb : b ≡ wordAt w (faceRowsAt x n + 5 * i + 4)) where
         module _ (ts : List Tet) (fs : List Triple) (s : State) (y : Faces x n count w₀ ts fs s) where
           abbrev here : Triple

@@ -1,6 +1,6 @@
 -- Two or three elements by value: oriented, measured and compared as in a list. Assumes nothing.
 use mathlib.Core.Path.{_≡_, refl, sym, ap, _∙_}
-use mathlib.Core.Bool.{Bool, true, false, cond, _&&_}
+use mathlib.Core.Bool.{Bool, true, false, cond, and-true}
 use mathlib.Core.List.{List, [], _∷_, map}
 use Prim.Native.Nat.{ℕ, _+_, _≤_, _<_}
 use native.Mathlib.Omega.{arith}
@@ -75,10 +75,6 @@ module _ (ps : List Point) (u : Trio) (d : Float) (e : d ≡ determinantOf ps (u
 
       pub above-three : u .count ≡ 3 → (d₃ : Float) → d₃ ≡ determinantOf ps (u .c) → lt zero64 d₃ ≡ every (measure ps .above) (elementsOf u)
       above-three k d₃ e₃ = sym (rw (elements-three u k, sym e, h, sym e₂, g, sym e₃) (and-true (lt zero64 d₃)))
-        where
-          and-true : (b : Bool) → (b && true) ≡ b
-          and-true true = refl
-          and-true false = refl
 
 -- ---- the tally
 

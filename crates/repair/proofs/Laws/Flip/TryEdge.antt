@@ -27,7 +27,7 @@ use Rattle.repair.specs.Flip.{State, hasAll, slotHas, live, numbersWith,
 use Rattle.repair.specs.Trio.{elementsOf}
 use Rattle.repair.specs.Layout.{Same}
 use Rattle.repair.specs.FlipLayout.{Stands, Kept, EdgesBound, tripleAt}
-use Rattle.repair.specs.FlipTries.{Holds, Counted, Counts, Went, Old, placesOf, EdgeListed, edgeRow}
+use Rattle.repair.specs.FlipTries.{Holds, Went, Old, placesOf, EdgeListed, edgeRow}
 use Rattle.repair.specs.FlipEdge.{trioIn, threeOf, othersOf, ListedAt}
 use Rattle.repair.proofs.Laws.Same.{same-trans}
 use Rattle.repair.proofs.Laws.Improve.Intake.{under-sound}
@@ -36,12 +36,9 @@ use Rattle.repair.proofs.Laws.Flip.Slots.{elements-with}
 use Rattle.repair.proofs.Laws.Flip.Edge.{besides-out, set-mem, set-rises, three-rise}
 use Rattle.repair.proofs.Laws.Flip.Layout.{area-long, slots-many, stands-kept, kept-area, kept-trans}
 use Rattle.repair.proofs.Laws.Flip.Bound.{edges-room, edges-turn}
-use Rattle.repair.proofs.Laws.Flip.Others.{besides-elim, well-made}
-use Rattle.repair.proofs.Laws.Flip.Held.{words-three, number-held, live-well}
-
--- a trial that changes nothing
-pub counts-same : {x : Index} {t : Tried} → Counted x t → Counts t t
-counts-same c = record { slots = c .slots; flips = omega arith }
+use Rattle.repair.proofs.Laws.Flip.Numbered.{well-made}
+use Rattle.repair.proofs.Laws.Flip.Others.{besides-elim, words-three}
+use Rattle.repair.proofs.Laws.Flip.Held.{number-held, live-well}
 
 module _ {x : Index} {n : ℕ} {t : Tried} {w : List ℕ} {s : State} (μ : Measure) (e : Pair) (h : Holds x n t w s) (l : EdgeListed (x .vertices) e) (b : EdgesBound n (s .slots)) where
   -- the numbers of the edge's elements

@@ -1,8 +1,8 @@
 -- A slot emptied and a slot added in the work slice: it stands for the state with that slot emptied or added. Assumes nothing.
 use mathlib.Core.Path.{_≡_, refl, sym, ap, ap₂, subst, _∙_}
 use mathlib.Core.Logic.{_⊎_, inl, inr}
-use mathlib.Core.Bool.{Bool, true, false, cond, _&&_}
-use mathlib.Core.List.{List, [], _∷_, _++_, map}
+use mathlib.Core.Bool.{Bool, true}
+use mathlib.Core.List.{List, [], _∷_, _++_, map, map-append}
 use mathlib.Core.Option.{Option, none, some}
 use Prim.Native.Nat.{ℕ, zero, suc, _+_, _-_, _*_, _≤_, _<_}
 use native.Mathlib.Omega.{arith}
@@ -13,8 +13,7 @@ use Rattle.mesh.specs.declared.element.Tet.{Tet}
 use Rattle.mesh.specs.declared.star.Index.{Index}
 use Rattle.mesh.specs.Words.{wordAt}
 use Rattle.mesh.specs.Tests.{every}
-use Rattle.mesh.specs.Element.{tet, tets}
-use Rattle.mesh.specs.List.{gone}
+use Rattle.mesh.specs.Element.{tets}
 use Rattle.mesh.specs.Intake.{wellNumbered}
 use Rattle.mesh.specs.Star.{Laid, Outside, goneTet, cornerAt, setChain, pushed, hung, hungAll, hasSlots, appended}
 use Rattle.mesh.proofs.Laws.Parts.{side}
@@ -26,11 +25,13 @@ use Rattle.repair.specs.Flip.{State}
 use Rattle.repair.specs.Layout.{slotOk}
 use Rattle.repair.specs.Replace.{putSlot}
 use Rattle.repair.specs.FlipLayout.{Room, Stands, Kept, facesAt, slotOf, wordsIn}
+use Rattle.repair.proofs.Laws.Layout.{area-at}
 use Rattle.repair.proofs.Laws.Project.Lists.{map-set}
+use Rattle.repair.proofs.Laws.Improve.Edges.{every-append}
 use Rattle.repair.proofs.Laws.Gain.Tallies.{elementAt, tets-next}
 use Rattle.repair.proofs.Laws.Replace.Slots.{ok-gone, ok-well, well-there}
 use Rattle.repair.proofs.Laws.Replace.Writes.{length-put, put-other, put-a, put-b, put-c, put-d}
-use Rattle.repair.proofs.Laws.Flip.Layout.{room-laid}
+use Rattle.repair.proofs.Laws.Flip.Layout.{room-laid, slot-none, slot-some}
 
 -- ---- the elements at p with one of them written
 
@@ -69,10 +70,6 @@ every-set p (x ∷ l) zero a h g = rw g (and-snd (p x) (every p l) h)
 every-set p (x ∷ l) (suc i) a h g = rw (and-fst (p x) (every p l) h) (every-set p l i a (and-snd (p x) (every p l) h) g)
 
 -- ---- a slot emptied
-
-gone-none : slotOf goneTet ≡ none
-unfolding slotOf
-gone-none = refl
 
 module _ {x : Index} {n c : ℕ} {w : List ℕ} {s : State} (z : Stands x n c w s) (e : ℕ) where
   laid : Laid x (length w)
@@ -118,7 +115,7 @@ module _ {x : Index} {n c : ℕ} {w : List ℕ} {s : State} (z : Stands x n c w 
     stands = record {
       room = subst (Room x n) (sym long) (z .room);
       fits = z .fits;
-      slots = ap (λ (l : List (Option Tet)). set l e none) (z .slots) ∙ ap (set (map slotOf (wordsIn x c w)) e) (sym gone-none) ∙ sym (ap (map slotOf) words ∙ map-set slotOf (wordsIn x c w) e goneTet);
+      slots = ap (λ (l : List (Option Tet)). set l e none) (z .slots) ∙ ap (set (map slotOf (wordsIn x c w)) e) (sym (slot-none goneTet refl)) ∙ sym (ap (map slotOf) words ∙ map-set slotOf (wordsIn x c w) e goneTet);
       proper = ap (every (slotOk (x .vertices))) words ∙ every-set (slotOk (x .vertices)) (wordsIn x c w) e goneTet (z .proper) (ok-gone (x .vertices));
       index = gone-complete x w c laid (z .fits) (z .index) u (λ j a b. behind j a) corner;
     }
@@ -141,8 +138,10 @@ tets-last (suc c) p w =
     ∙ sym (ap (λ (l : List Tet). l ++ (elementAt w (p + 4 * suc c) ∷ [])) (next c p w))
 
 -- where the area begins does not matter to what is hung
-abbrev pub area-at : Index → ℕ → Index
-area-at x a = record { slots = x .slots; nexts = x .nexts; heads = x .heads; lengths = x .lengths; area = a; room = x .room; vertices = x .vertices }
+pub short-laid : (x : Index) (m : ℕ) → Laid x m → Laid (area-at x (facesAt x)) m
+short-laid x m l =
+    let a = l .area in let b = l .end in
+    record { few = l .few; nexts = l .nexts; heads = l .heads; lengths = l .lengths; area = (let e : facesAt x ≤ facesAt x = omega arith in e); end = omega arith }
 
 pub hung-at : (x : Index) (a k p : ℕ) (w : List ℕ) → hungAll (area-at x a) k p w ≡ hungAll x k p w
 unfolding hungAll hung pushed setChain
@@ -152,18 +151,6 @@ hung-at x a (suc k) p w = hung-at x a k (p + 1) (hung x p w)
 pub appended-is : (x : Index) (i j : ℕ) (w : List ℕ) → Laid x (length w) → i ≤ j → j ≤ x .room → appended x i j w ≡ hungAll x (4 * j - 4 * i) (4 * i) w
 unfolding appended hasSlots
 appended-is x i j w l hi hj = rw (laid-yes x (length w) l, le-leb i j hi, le-leb j (x .room) hj)
-
-map-append : (f : Tet → Option Tet) (l m : List Tet) → map f (l ++ m) ≡ map f l ++ map f m
-map-append f [] m = refl
-map-append f (a ∷ l) m = ap (λ k. f a ∷ k) (map-append f l m)
-
-every-append : (p : Tet → Bool) (l m : List Tet) → every p l ≡ true → every p m ≡ true → every p (l ++ m) ≡ true
-every-append p [] m h g = g
-every-append p (a ∷ l) m h g = rw (and-fst (p a) (every p l) h) (every-append p l m (and-snd (p a) (every p l) h) g)
-
-pub slot-there : (t : Tet) → gone t ≡ false → slotOf t ≡ some t
-unfolding slotOf
-slot-there t h = rw h refl
 
 module _ {x : Index} {n c : ℕ} {w : List ℕ} {s : State} (z : Stands x n c w s) (t : Tet) (ok : wellNumbered (x .vertices) t ≡ true) (room : c < x .room) where
   abbrev put : List ℕ
@@ -181,20 +168,20 @@ module _ {x : Index} {n c : ℕ} {w : List ℕ} {s : State} (z : Stands x n c w 
   put-laid : Laid x (length put)
   put-laid = subst (Laid x) (sym put-long) old-laid
 
-  short-laid : Laid short (length put)
-  short-laid = let l = put-laid in let a = l .area in let b = l .end in record { few = l .few; nexts = l .nexts; heads = l .heads; lengths = l .lengths; area = (let e : facesAt x ≤ facesAt x = omega arith in e); end = omega arith }
+  put-short : Laid short (length put)
+  put-short = short-laid x (length put) put-laid
 
   abbrev after : List ℕ
   after = appended x c (c + 1) put
 
   same-after : after ≡ appended short c (c + 1) put
-  same-after = appended-is x c (c + 1) put put-laid (omega arith) (omega arith) ∙ sym (appended-is short c (c + 1) put short-laid (omega arith) (omega arith) ∙ hung-at x (facesAt x) (4 * (c + 1) - 4 * c) (4 * c) put)
+  same-after = appended-is x c (c + 1) put put-laid (omega arith) (omega arith) ∙ sym (appended-is short c (c + 1) put put-short (omega arith) (omega arith) ∙ hung-at x (facesAt x) (4 * (c + 1) - 4 * c) (4 * c) put)
 
   after-long : length after ≡ length w
-  after-long = ap length same-after ∙ length-appended short c (c + 1) put short-laid (omega arith) (omega arith) ∙ put-long
+  after-long = ap length same-after ∙ length-appended short c (c + 1) put put-short (omega arith) (omega arith) ∙ put-long
 
   outside : (j : ℕ) → Outside short j → wordAt after j ≡ wordAt put j
-  outside j o = ap (λ (l : List ℕ). wordAt l j) same-after ∙ appended-outside short c (c + 1) put short-laid (omega arith) (omega arith) j o
+  outside j o = ap (λ (l : List ℕ). wordAt l j) same-after ∙ appended-outside short c (c + 1) put put-short (omega arith) (omega arith) j o
 
   room-here : x .slots + 4 * c + 4 ≤ x .nexts
   room-here = let a = old-laid .nexts in omega arith
@@ -219,7 +206,7 @@ module _ {x : Index} {n c : ℕ} {w : List ℕ} {s : State} (z : Stands x n c w 
       room = subst (Room x n) (sym after-long) (z .room);
       fits = omega arith;
       slots =
-          ap₂ (λ (l : List (Option Tet)) (q : Option Tet). l ++ (q ∷ [])) (z .slots) (sym (slot-there t (well-there (x .vertices) (let k = z .room .few in omega arith) t ok)))
+          ap₂ (λ (l : List (Option Tet)) (q : Option Tet). l ++ (q ∷ [])) (z .slots) (sym (slot-some t (well-there (x .vertices) (let k = z .room .few in omega arith) t ok)))
           ∙ sym (ap (map slotOf) all-words ∙ map-append slotOf (wordsIn x c w) (t ∷ []));
       proper = ap (every (slotOk (x .vertices))) all-words ∙ every-append (slotOk (x .vertices)) (wordsIn x c w) (t ∷ []) (z .proper) (rw (ok-well (x .vertices) t ok) refl);
       index = appended-complete x c (c + 1) put put-laid (omega arith) (omega arith)

@@ -7,7 +7,7 @@ use Prim.Native.Nat.{ℕ, zero, suc, _+_, _-_, _*_, _≤_, _<_}
 use native.Mathlib.Nat.{add-zero, not-suc-le-zero}
 use native.Mathlib.Omega.{arith}
 use lib.Ieee.{Float}
-use lib.ListN.{length, drop}
+use lib.ListN.{length, drop, List·getD-eq-default}
 use lib.Seq.{getD-drop, drop-drop}
 use Rattle.geometry.specs.Float.{smaller}
 use Rattle.geometry.specs.Score.{bad, lowest, lowestFrom}
@@ -22,6 +22,13 @@ use Rattle.repair.specs.Tally.{started, counted, tallied}
 -- the element whose four words begin at p
 abbrev pub elementAt : List ℕ → ℕ → Tet
 elementAt w p = tet (wordAt w p) (wordAt w (p + 1)) (wordAt w (p + 2)) (wordAt w (p + 3))
+
+-- one past the end
+pub element-past : (w : List ℕ) (p : ℕ) → length w < p → tet 0 0 0 0 ≡ elementAt w p
+element-past w p h = sym (rw (past p (omega arith), past (p + 1) (omega arith), past (p + 2) (omega arith), past (p + 3) (omega arith)) refl)
+  where
+    past : (i : ℕ) → length w ≤ i → wordAt w i ≡ 0
+    past i l = List·getD-eq-default w 0 l
 
 -- the first of the n elements at p
 pub tets-next : (n p : ℕ) (w : List ℕ) → 0 < n → tets n (drop p w) ≡ elementAt w p ∷ tets (n - 1) (drop (p + 4) w)

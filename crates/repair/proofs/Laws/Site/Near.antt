@@ -53,9 +53,10 @@ kept-rising p k (suc n) = elim (split (p k)) [
 
 -- ---- neighbours
 
-mem-both : (z : ℕ) (a b : List ℕ) → mem z (a ++ b) ≡ (mem z a || mem z b)
-mem-both z [] b = refl
-mem-both z (y ∷ a) b = elim (split (eqb z y)) [ inl e ↦ rw e refl | inr e ↦ rw e (mem-both z a b) ]
+-- a member of two lists, one behind the other
+pub mem-append : (z : ℕ) (a b : List ℕ) → mem z (a ++ b) ≡ (mem z a || mem z b)
+mem-append z [] b = refl
+mem-append z (y ∷ a) b = elim (split (eqb z y)) [ inl e ↦ rw e refl | inr e ↦ rw e (mem-append z a b) ]
 
 mem-others : (v z : ℕ) (ts : List Tet) → mem z (othersOf v ts) ≡ (not (eqb z v) && any (λ t. has v t && has z t) ts)
 unfolding othersOf
@@ -65,7 +66,7 @@ mem-others v z [] = none (not (eqb z v))
     none true = refl
     none false = refl
 mem-others v z (t ∷ ts) =
-    mem-both z (cond (has v t) (butFor v (verticesOf t)) []) (othersOf v ts) ∙ ap₂ (λ (a b : Bool). a || b) (here (has v t)) (mem-others v z ts)
+    mem-append z (cond (has v t) (butFor v (verticesOf t)) []) (othersOf v ts) ∙ ap₂ (λ (a b : Bool). a || b) (here (has v t)) (mem-others v z ts)
     ∙ spread (has v t) (has z t) (not (eqb z v)) (any (λ u. has v u && has z u) ts)
   where
     here : (b : Bool) → mem z (cond b (butFor v (verticesOf t)) []) ≡ (b && (has z t && not (eqb z v)))

@@ -18,7 +18,7 @@ flip-layout-requires c κs = search needs
 begin-flip-requires : tie.Need-begin-flip-requires
 begin-flip-requires c κs =
     let f = (c .before .before .before .before .before .before .before .before .before .pre) in
-    ((c .before .before .flip-layout .ensures .1) _ (f .long), (f .zeros, ((let b = f .slots in omega arith), well (c .before .before .before .before .before .before .before .before .before .args .sizes) (c .before .before .before .before .before .before .before .before .before .args .points .now) (c .before .before .before .before .before .before .before .before .before .args .elements .now) (c .before .before .before .before .before .before .before .before .before .args .surface .now) (c .before .before .before .before .before .before .before .before .before .args .work .now) (c .before .before .before .before .before .before .before .before .before .pre) (c .before .before .flip-layout .result) (c .before .before .flip-layout .ensures .0))))
+    ((c .before .before .flip-layout .ensures .1) _ (f .long), ((let b = f .slots in omega arith), well (c .before .before .before .before .before .before .before .before .before .args .sizes) (c .before .before .before .before .before .before .before .before .before .args .points .now) (c .before .before .before .before .before .before .before .before .before .args .elements .now) (c .before .before .before .before .before .before .before .before .before .args .surface .now) (c .before .before .before .before .before .before .before .before .before .args .work .now) (c .before .before .before .before .before .before .before .before .before .pre) (c .before .before .flip-layout .result) (c .before .before .flip-layout .ensures .0)))
 
 try-faces-requires : tie.Need-try-faces-requires
 try-faces-requires c κs = search needs

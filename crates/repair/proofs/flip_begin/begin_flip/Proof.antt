@@ -7,13 +7,13 @@ use Rattle.repair.proofs.flip_begin.begin_flip.Statement.{statement}
 use Rattle.repair.proofs.flip_begin.begin_flip.Tie as tie
 
 lay-faces-requires : tie.Need-lay-faces-requires
-lay-faces-requires c κs = (c .before .before .before .before .pre .0, c .before .before .before .before .pre .1 .1 .0)
+lay-faces-requires c κs = (c .before .before .before .before .pre .0, c .before .before .before .before .pre .1 .0)
 
 lay-edges-requires : tie.Need-lay-edges-requires
-lay-edges-requires c κs = (subst (Room (c .before .before .before .before .before .before .before .before .args .x) (c .before .before .before .before .before .before .before .before .args .n)) (sym (c .before .before .before .lay-faces .ensures .same .long)) (c .before .before .before .before .before .before .before .before .pre .0), c .before .before .before .before .before .before .before .before .pre .1 .1 .0)
+lay-edges-requires c κs = (subst (Room (c .before .before .before .before .before .before .before .before .args .x) (c .before .before .before .before .before .before .before .before .args .n)) (sym (c .before .before .before .lay-faces .ensures .same .long)) (c .before .before .before .before .before .before .before .before .pre .0), c .before .before .before .before .before .before .before .before .pre .1 .0)
 
 lay-slots-requires : tie.Need-lay-slots-requires
-lay-slots-requires c κs = (subst (Room (c .before .before .before .before .before .before .before .before .before .before .before .before .args .x) (c .before .before .before .before .before .before .before .before .before .before .before .before .args .n)) (sym (c .before .before .before .lay-edges .ensures .same .long ∙ c .before .before .before .before .before .before .before .lay-faces .ensures .same .long)) (c .before .before .before .before .before .before .before .before .before .before .before .before .pre .0), c .before .before .before .before .before .before .before .before .before .before .before .before .pre .1 .1)
+lay-slots-requires c κs = (subst (Room (c .before .before .before .before .before .before .before .before .before .before .before .before .args .x) (c .before .before .before .before .before .before .before .before .before .before .before .before .args .n)) (sym (c .before .before .before .lay-edges .ensures .same .long ∙ c .before .before .before .before .before .before .before .lay-faces .ensures .same .long)) (c .before .before .before .before .before .before .before .before .before .before .before .before .pre .0), c .before .before .before .before .before .before .before .before .before .before .before .before .pre .1)
 
 same-length : tie.Need-same-length
 same-length c = search needs

@@ -3,37 +3,25 @@ use Rattle.repair.proofs.Laws.Flip.Others.{others-listed}
 use borrow.Author.Needs.{needs}
 use Rattle.repair.proofs.flip_edge.others.Statement.{statement}
 use Rattle.repair.proofs.flip_edge.others.Tie as tie
-use Rattle.repair.proofs.flip_edge.others.Reads as reads
-use Rattle.repair.proofs.flip_edge.others.Lts as lts
-use Rattle.mesh.proofs.rows.sort_rows.Reads as sort-rows-reads
-use Rattle.mesh.proofs.rows.unique_rows.Reads as unique-rows-reads
-use Rattle.repair.proofs.flip_edge.put_others.Reads as put-others-reads
 
--- src/flip_edge.rt:108:9
 put-others-requires : tie.Need-put-others-requires
 put-others-requires c κs = search needs
 
--- src/flip_edge.rt:109:9
 put-others-requires-2 : tie.Need-put-others-requires-2
 put-others-requires-2 c κs = search needs
 
--- src/flip_edge.rt:110:9
 put-others-requires-3 : tie.Need-put-others-requires-3
 put-others-requires-3 c κs = search needs
 
--- src/flip_edge.rt:111:5
 sort-rows-requires : tie.Need-sort-rows-requires
 sort-rows-requires c κs = search needs
 
--- src/flip_edge.rt:112:5
 unique-rows-requires : tie.Need-unique-rows-requires
 unique-rows-requires c κs = search needs
 
--- src/flip_edge.rt:101:1
 same-length : tie.Need-same-length
 same-length c = search needs
 
--- src/flip_edge.rt:101:1
 returns : tie.Need-returns
 returns c = others-listed (c .before .before .before .before .before .before .before .before .before .before .before .before .before .before .before .before .before .before .before .before .before .before .before .before .args .e) (c .before .before .before .before .before .before .before .before .before .before .before .before .before .before .before .before .before .before .before .before .before .before .before .before .args .old .a) (c .before .before .before .before .before .before .before .before .before .before .before .before .before .before .before .before .before .before .before .before .before .before .before .before .args .old .b) (c .before .before .before .before .before .before .before .before .before .before .before .before .before .before .before .before .before .before .before .before .before .before .before .before .args .old .c) ((c .before .before .before .before .before .before .before .before .before .before .before .before .before .before .before .before .before .before .before .before .before .before .before .before .pre)) (c .before .before .before .before .before .before .before .before .before .before .before .before .before .before .before .before .before .before .put-others .ensures) (c .before .before .before .before .before .before .before .before .before .before .before .before .before .before .put-others2 .ensures) (c .before .before .before .before .before .before .before .before .before .before .put-others3 .ensures) (c .before .before .before .before .before .before .sort-rows .ensures) (c .before .before .unique-rows .ensures .0) (c .before .before .unique-rows .ensures .1)
 

@@ -3,31 +3,22 @@ use Rattle.repair.proofs.Laws.Flip.Others.{other-first, other-second, o
 use borrow.Author.Needs.{needs}
 use Rattle.repair.proofs.flip_edge.put_other.Statement.{statement}
 use Rattle.repair.proofs.flip_edge.put_other.Tie as tie
-use Rattle.repair.proofs.flip_edge.put_other.Reads as reads
-use Rattle.repair.proofs.flip_edge.put_other.Lts as lts
-use Rattle.mesh.proofs.words.put_word.Reads as put-word-reads
 
--- src/flip_edge.rt:79:9
 returns : tie.Need-returns
 returns c = other-first (c .before .before .before .args .e) (c .before .before .before .args .area .now) (c .before .before .before .args .k) (c .before .before .before .args .v) (c .if1 .taken)
 
--- src/flip_edge.rt:82:9
 returns-2 : tie.Need-returns-2
 returns-2 c = other-second (c .before .before .before .before .before .args .e) (c .before .before .before .before .before .args .area .now) (c .before .before .before .before .before .args .k) (c .before .before .before .before .before .args .v) (c .before .before .if1 .left) (c .if2 .taken)
 
--- src/flip_edge.rt:84:5
 put-word-requires : tie.Need-put-word-requires
 put-word-requires c κs = search needs
 
--- src/flip_edge.rt:85:5
 add-result : tie.Need-add-result
 add-result c = search needs
 
--- src/flip_edge.rt:73:1
 same-length : tie.Need-same-length
 same-length c = search needs
 
--- src/flip_edge.rt:73:1
 returns-3 : tie.Need-returns-3
 returns-3 c = other-put (c .before .before .before .before .before .before .before .before .before .args .e) (c .before .before .before .before .before .before .before .before .before .args .area .now) _ (c .before .before .before .before .before .before .before .before .before .args .k) (c .before .before .before .before .before .before .before .before .before .args .v) (c .before .before .before .before .before .before .if1 .left) (c .before .before .before .before .if2 .left) ((c .before .before .before .before .before .before .before .before .before .pre)) (c .before .before .put-word .ensures)
 

@@ -7,35 +7,25 @@ use Rattle.repair.proofs.Laws.Finish.Moved.{copied-over}
 use borrow.Author.Needs.{needs}
 use Rattle.repair.proofs.flip_end.commit_flip.Statement.{statement}
 use Rattle.repair.proofs.flip_end.commit_flip.Tie as tie
-use Rattle.repair.proofs.flip_end.commit_flip.Reads as reads
-use Rattle.repair.proofs.flip_end.commit_flip.Lts as lts
-use Rattle.mesh.proofs.words.copy_into.Reads as copy-into-reads
 
--- src/flip_end.rt:170:13
 mul-m : tie.Need-mul-m
 mul-m c = search needs
 
--- src/flip_end.rt:171:5
 copy-into-requires : tie.Need-copy-into-requires
 copy-into-requires c κs = search needs
 
--- src/flip_end.rt:172:36
 mul-copy-into : tie.Need-mul-copy-into
 mul-copy-into c = search needs
 
--- src/flip_end.rt:172:5
 copy-into-requires-2 : tie.Need-copy-into-requires-2
 copy-into-requires-2 c κs = search needs
 
--- src/flip_end.rt:165:1
 same-length : tie.Need-same-length
 same-length c = search needs
 
--- src/flip_end.rt:165:1
 same-length-2 : tie.Need-same-length-2
 same-length-2 c = search needs
 
--- src/flip_end.rt:165:1
 returns : tie.Need-returns
 returns c = let h = (c .before .before .before .before .before .before .before .before .before .before .before .pre .2) in (c .before .before .before .before .before .before .copy-into .ensures ∙ copied-over (c .before .before .before .before .before .before .before .before .before .before .before .args .area .now) (c .before .before .before .before .before .before .before .before .before .before .before .args .elements .now) (take (4 * c .before .before .before .before .before .before .before .before .before .before .before .args .k) (c .before .before .before .before .before .before .before .before .before .before .before .args .area .now)) 0 (4 * c .before .before .before .before .before .before .before .before .before .before .before .args .k) (omega arith) (c .before .before .before .before .before .before .before .before .before .before .before .pre .3) refl, c .before .before .copy-into2 .ensures ∙ copied-over (c .before .before .before .before .before .before .before .before .before .before .before .args .area .now) (c .before .before .before .before .before .before .before .before .before .before .before .args .surface .now) (take (3 * c .before .before .before .before .before .before .before .before .before .before .before .args .c) (drop (4 * c .before .before .before .before .before .before .before .before .before .before .before .args .k) (c .before .before .before .before .before .before .before .before .before .before .before .args .area .now))) (4 * c .before .before .before .before .before .before .before .before .before .before .before .args .k) (3 * c .before .before .before .before .before .before .before .before .before .before .before .args .c) h (c .before .before .before .before .before .before .before .before .before .before .before .pre .4) refl)
 

@@ -3,52 +3,37 @@ use Rattle.repair.proofs.Laws.Flip.Finish.{commit-room, flip-done, flip
 use borrow.Author.Needs.{needs}
 use Rattle.repair.proofs.flip_end.finish_flip.Statement.{statement}
 use Rattle.repair.proofs.flip_end.finish_flip.Tie as tie
-use Rattle.repair.proofs.flip_end.finish_flip.Reads as reads
-use Rattle.repair.proofs.flip_end.finish_flip.Lts as lts
-use Rattle.repair.proofs.flip_end.commit_flip.Reads as commit-flip-reads
-use Rattle.repair.proofs.flip_end.flip_surface.Reads as flip-surface-reads
 
--- src/flip_end.rt:189:9
 flip-surface-requires : tie.Need-flip-surface-requires
 flip-surface-requires c κs = search needs
 
--- src/flip_end.rt:191:26
 enum-known-found : tie.Need-enum-known-found
 enum-known-found c = search needs
 
--- src/flip_end.rt:192:13
 commit-flip-requires : tie.Need-commit-flip-requires
 commit-flip-requires c κs = commit-room (c .before .before .before .before .before .before .before .before .before .before .before .before .before .before .args .elements .now) (c .before .before .before .before .before .before .before .before .before .before .before .before .before .before .args .surface .now) (c .before .before .before .before .before .before .before .before .before .before .before .before .before .before .args .area .now) ((c .before .before .before .before .before .before .before .before .before .before .before .before .before .before .pre)) (c .before .before .before .before .before .before .before .before .flip-surface .ensures) (c .before .before .before .before .found .given .1) (c .before .before .before .before .before .before .before .before .flip-surface .kept .0)
 
--- src/flip_end.rt:202:26
 enum-known-found-2 : tie.Need-enum-known-found-2
 enum-known-found-2 c = search needs
 
--- src/flip_end.rt:177:1
 same-length : tie.Need-same-length
 same-length c = search needs
 
--- src/flip_end.rt:177:1
 same-length-2 : tie.Need-same-length-2
 same-length-2 c = search needs
 
--- src/flip_end.rt:177:1
 same-length-3 : tie.Need-same-length-3
 same-length-3 c = search needs
 
--- src/flip_end.rt:177:1
 returns : tie.Need-returns
 returns c = flip-done (c .before .before .before .before .before .before .before .before .before .before .before .before .before .before .before .before .before .before .before .args .elements .now) (c .before .before .before .before .before .before .before .before .before .before .before .before .before .before .before .before .before .before .before .args .surface .now) (c .before .before .before .before .before .before .before .before .before .before .before .before .before .before .before .before .before .before .before .args .area .now) ((c .before .before .before .before .before .before .before .before .before .before .before .before .before .before .before .before .before .before .before .pre)) (c .before .before .before .before .before .before .before .before .before .before .before .before .before .flip-surface .ensures) (c .before .before .before .before .before .before .before .before .before .found .given .1) (c .before .before .before .before .before .before .before .before .before .before .before .before .before .before .before .before .before .before .before .args .count) (c .before .before .before .before .before .before .before .before .before .before .before .before .before .before .before .before .before .before .before .args .sizes .vertices) _ _ (c .before .before .before .before .commit-flip .ensures .0) (c .before .before .before .before .commit-flip .ensures .1)
 
--- src/flip_end.rt:177:1
 same-length-4 : tie.Need-same-length-4
 same-length-4 c = search needs
 
--- src/flip_end.rt:177:1
 same-length-5 : tie.Need-same-length-5
 same-length-5 c = search needs
 
--- src/flip_end.rt:177:1
 returns-2 : tie.Need-returns-2
 returns-2 c = flip-refused (c .before .before .before .before .before .before .before .before .before .before .before .args .elements .now) (c .before .before .before .before .before .before .before .before .before .before .before .args .surface .now) (c .before .before .before .before .before .before .before .before .before .before .before .args .area .now) ((c .before .before .before .before .before .before .before .before .before .before .before .pre)) (c .before .before .before .before .before .flip-surface .ensures) (c .before .found2 .given .1) (c .before .before .before .before .before .before .before .before .before .before .before .args .count) (c .before .before .before .before .before .before .before .before .before .before .before .args .sizes .vertices)
 

@@ -2,45 +2,31 @@
 use borrow.Author.Needs.{needs}
 use Rattle.repair.proofs.flip_end.put_key.Statement.{statement}
 use Rattle.repair.proofs.flip_end.put_key.Tie as tie
-use Rattle.repair.proofs.flip_end.put_key.Reads as reads
-use Rattle.repair.proofs.flip_end.put_key.Lts as lts
-use Rattle.mesh.proofs.element.face_key.Reads as face-key-reads
-use Rattle.mesh.proofs.words.put_word.Reads as put-word-reads
-use Rattle.repair.proofs.flip_end.triple_from.Reads as triple-from-reads
 
--- src/flip_end.rt:36:9
 triple-from-requires : tie.Need-triple-from-requires
 triple-from-requires c κs = search needs
 
--- src/flip_end.rt:37:9
 face-key-requires : tie.Need-face-key-requires
 face-key-requires c κs = search needs
 
--- src/flip_end.rt:38:5
 put-word-requires : tie.Need-put-word-requires
 put-word-requires c κs = search needs
 
--- src/flip_end.rt:39:20
 add-put-word : tie.Need-add-put-word
 add-put-word c = search needs
 
--- src/flip_end.rt:39:5
 put-word-requires-2 : tie.Need-put-word-requires-2
 put-word-requires-2 c κs = search needs
 
--- src/flip_end.rt:40:20
 add-put-word-2 : tie.Need-add-put-word-2
 add-put-word-2 c = search needs
 
--- src/flip_end.rt:40:5
 put-word-requires-3 : tie.Need-put-word-requires-3
 put-word-requires-3 c κs = search needs
 
--- src/flip_end.rt:32:1
 same-length : tie.Need-same-length
 same-length c = search needs
 
--- src/flip_end.rt:32:1
 returns : tie.Need-returns
 returns c = cc
 

@@ -1,79 +1,58 @@
 -- `repair::flip_end::same_surface` meets its contract. Assumes nothing.
 use mathlib.Core.Path.{refl}
 use Prim.Native.Nat.{_*_}
-use lib.ListN.{length, drop}
+use lib.ListN.{drop}
 use Rattle.repair.proofs.Laws.Same.{same-refl}
 use Rattle.repair.proofs.Laws.Flip.Surface.{keys-differ, surface-same, surface-kept}
 use borrow.Author.Needs.{needs}
 use Rattle.repair.proofs.flip_end.same_surface.Statement.{statement}
 use Rattle.repair.proofs.flip_end.same_surface.Tie as tie
-use Rattle.repair.proofs.flip_end.same_surface.Reads as reads
-use Rattle.repair.proofs.flip_end.same_surface.Lts as lts
-use Rattle.mesh.proofs.words.copy_into.Reads as copy-into-reads
-use Rattle.repair.proofs.flip_end.put_sorted_keys.Reads as put-sorted-keys-reads
-use Rattle.repair.proofs.flip_end.same_triples.Reads as same-triples-reads
 
--- src/flip_end.rt:116:9
 returns : tie.Need-returns
 returns c = (keys-differ (c .before .before .before .args .c) (c .before .before .before .args .g) (drop (4 * c .before .before .before .args .k) (c .before .before .before .args .area .now)) (c .before .before .before .args .surface .now) (c .if1 .taken), same-refl (c .before .before .before .args .area .now) _ _)
 
--- src/flip_end.rt:118:13
 mul-p : tie.Need-mul-p
 mul-p c = search needs
 
--- src/flip_end.rt:118:22
 mul-p-2 : tie.Need-mul-p-2
 mul-p-2 c = search needs
 
--- src/flip_end.rt:118:13
 add-p : tie.Need-add-p
 add-p c = search needs
 
--- src/flip_end.rt:119:17
 mul-r : tie.Need-mul-r
 mul-r c = search needs
 
--- src/flip_end.rt:119:13
 add-r : tie.Need-add-r
 add-r c = search needs
 
--- src/flip_end.rt:120:17
 mul-q : tie.Need-mul-q
 mul-q c = search needs
 
--- src/flip_end.rt:120:13
 add-q : tie.Need-add-q
 add-q c = search needs
 
--- src/flip_end.rt:121:27
 mul-put-sorted-keys : tie.Need-mul-put-sorted-keys
 mul-put-sorted-keys c = search needs
 
--- src/flip_end.rt:121:5
 put-sorted-keys-requires : tie.Need-put-sorted-keys-requires
 put-sorted-keys-requires c κs = search needs
 
--- src/flip_end.rt:122:36
 mul-copy-into : tie.Need-mul-copy-into
 mul-copy-into c = search needs
 
--- src/flip_end.rt:122:5
 copy-into-requires : tie.Need-copy-into-requires
 copy-into-requires c κs = search needs
 
--- src/flip_end.rt:123:5
 put-sorted-keys-requires-2 : tie.Need-put-sorted-keys-requires-2
 put-sorted-keys-requires-2 c κs = search needs
 
--- src/flip_end.rt:124:5
 same-triples-requires : tie.Need-same-triples-requires
 same-triples-requires c κs = search needs
 
--- src/flip_end.rt:110:1
 same-length : tie.Need-same-length
 same-length c = search needs
 
--- src/flip_end.rt:110:1
 returns-2 : tie.Need-returns-2
 returns-2 c = (surface-same (c .before .before .before .before .before .before .before .before .before .before .before .before .before .before .before .before .before .args .k) (c .before .before .before .before .before .before .before .before .before .before .before .before .before .before .before .before .before .args .c) (c .before .before .before .before .before .before .before .before .before .before .before .before .before .before .before .before .before .args .g) _ _ _ (c .before .before .before .before .before .before .before .before .before .before .before .before .before .before .before .before .before .args .area .now) (c .before .before .before .before .before .before .before .before .before .before .before .before .before .before .before .before .before .args .surface .now) (c .before .before .before .before .before .before .before .before .before .before .before .before .before .before .before .before .before .pre .2) (c .before .before .before .before .before .before .before .before .before .before .before .before .before .before .before .before .before .pre .3) refl refl refl (c .before .before .before .before .before .before .before .before .before .before .before .before .put-sorted-keys .last .0) _ (c .before .before .before .before .put-sorted-keys2 .last .0) (c .before .before .before .before .before .before .before .before .before .before .before .before .put-sorted-keys .ensures) (c .before .before .before .before .before .before .before .before .copy-into .ensures) (c .before .before .before .before .put-sorted-keys2 .ensures) (c .before .before .before .before .before .before .before .before .before .before .before .before .before .before .if1 .left) _ (c .same-triples .ensures), surface-kept (c .before .before .before .before .before .before .before .before .before .before .before .before .before .before .before .before .before .args .k) (c .before .before .before .before .before .before .before .before .before .before .before .before .before .before .before .before .before .args .c) (c .before .before .before .before .before .before .before .before .before .before .before .before .before .before .before .before .before .args .g) _ _ _ (c .before .before .before .before .before .before .before .before .before .before .before .before .before .before .before .before .before .args .area .now) (c .before .before .before .before .before .before .before .before .before .before .before .before .before .before .before .before .before .args .surface .now) (c .before .before .before .before .before .before .before .before .before .before .before .before .before .before .before .before .before .pre .2) (c .before .before .before .before .before .before .before .before .before .before .before .before .before .before .before .before .before .pre .3) refl refl refl (c .before .before .before .before .before .before .before .before .before .before .before .before .put-sorted-keys .last .0) _ (c .before .before .before .before .put-sorted-keys2 .last .0) (c .before .before .before .before .before .before .before .before .before .before .before .before .put-sorted-keys .ensures) (c .before .before .before .before .before .before .before .before .copy-into .ensures) (c .before .before .before .before .put-sorted-keys2 .ensures))
 

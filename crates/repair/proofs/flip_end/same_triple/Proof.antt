@@ -1,20 +1,14 @@
 -- `repair::flip_end::same_triple` meets its contract, test by test. Assumes nothing.
 use borrow.Author.Tests.{eq-eqb, ne-eqb}
-use borrow.Author.Needs.{needs}
 use Rattle.repair.proofs.flip_end.same_triple.Statement.{statement}
 use Rattle.repair.proofs.flip_end.same_triple.Tie as tie
-use Rattle.repair.proofs.flip_end.same_triple.Reads as reads
-use Rattle.repair.proofs.flip_end.same_triple.Lts as lts
 
--- src/flip_end.rt:69:9
 returns : tie.Need-returns
 returns c = rw (ne-eqb _ _ (c .if1 .taken))
 
--- src/flip_end.rt:72:9
 returns-2 : tie.Need-returns-2
 returns-2 c = rw (eq-eqb _ _ (c .before .before .before .if1 .left), ne-eqb _ _ (c .if2 .taken))
 
--- src/flip_end.rt:65:1
 returns-3 : tie.Need-returns-3
 returns-3 c = rw (eq-eqb _ _ (c .before .before .before .before .before .if1 .left), eq-eqb _ _ (c .before .before .if2 .left))
 

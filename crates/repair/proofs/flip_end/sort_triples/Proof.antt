@@ -1,5 +1,5 @@
 -- `repair::flip_end::sort_triples` meets its contract. Assumes nothing.
-use mathlib.Core.Path.{ap, _∙_}
+use mathlib.Core.Path.{ap}
 use Prim.Native.Nat.{_+_, _-_, _*_}
 use mathlib.Core.List.{List}
 use Prim.Native.Nat.{ℕ}
@@ -8,43 +8,31 @@ use Rattle.repair.proofs.Laws.Flip.Keys.{sorted-triples}
 use borrow.Author.Needs.{needs}
 use Rattle.repair.proofs.flip_end.sort_triples.Statement.{statement}
 use Rattle.repair.proofs.flip_end.sort_triples.Tie as tie
-use Rattle.repair.proofs.flip_end.sort_triples.Reads as reads
-use Rattle.repair.proofs.flip_end.sort_triples.Lts as lts
-use Rattle.mesh.proofs.rows.sort_rows.Reads as sort-rows-reads
 
--- src/flip_end.rt:60:17
 mul-e : tie.Need-mul-e
 mul-e c = search needs
 
--- src/flip_end.rt:60:13
 add-e : tie.Need-add-e
 add-e c = search needs
 
--- src/flip_end.rt:61:15
 mul-sort-rows : tie.Need-mul-sort-rows
 mul-sort-rows c = search needs
 
--- src/flip_end.rt:61:15
 sub-sort-rows : tie.Need-sub-sort-rows
 sub-sort-rows c = search needs
 
--- src/flip_end.rt:61:15
 part-sort-rows-start : tie.Need-part-sort-rows-start
 part-sort-rows-start c = search needs
 
--- src/flip_end.rt:61:15
 part-sort-rows-end : tie.Need-part-sort-rows-end
 part-sort-rows-end c = search needs
 
--- src/flip_end.rt:61:5
 sort-rows-requires : tie.Need-sort-rows-requires
 sort-rows-requires c κs = search needs
 
--- src/flip_end.rt:56:1
 same-length : tie.Need-same-length
 same-length c = search needs
 
--- src/flip_end.rt:56:1
 returns : tie.Need-returns
 returns c = sorted-triples (c .before .before .before .before .before .args .p) (c .before .before .before .before .before .args .c) (c .before .before .before .before .before .args .area .now) (c .before .before .before .before .before .pre .1) _ (ap (λ (y : List ℕ). putMid (c .before .before .before .before .before .args .p) (c .before .before .before .before .before .args .p + 6 * c .before .before .before .before .before .args .c - c .before .before .before .before .before .args .p) (c .before .before .before .before .before .args .area .now) y) (c .before .before .sort-rows .ensures))
 

@@ -6,35 +6,25 @@ use Rattle.repair.proofs.Laws.Flip.Apex.{apex-first, apex-second, apex-
 use borrow.Author.Needs.{needs}
 use Rattle.repair.proofs.flip_face.apex.Statement.{statement}
 use Rattle.repair.proofs.flip_face.apex.Tie as tie
-use Rattle.repair.proofs.flip_face.apex.Reads as reads
-use Rattle.repair.proofs.flip_face.apex.Lts as lts
-use Rattle.repair.proofs.flip_face.is_corner.Reads as is-corner-reads
 
--- src/flip_face.rt:63:9
 is-corner-requires : tie.Need-is-corner-requires
 is-corner-requires c κs = search needs
 
--- src/flip_face.rt:64:9
 returns : tie.Need-returns
 returns c = apex-first (cornersOf (c .before .before .args .f)) (c .before .before .args .t) (sym (c .before .is-corner .ensures) ∙ not-true _ (c .if1 .taken))
 
--- src/flip_face.rt:66:9
 is-corner-requires-2 : tie.Need-is-corner-requires-2
 is-corner-requires-2 c κs = search needs
 
--- src/flip_face.rt:67:9
 returns-2 : tie.Need-returns-2
 returns-2 c = apex-second (cornersOf (c .before .before .before .before .args .f)) (c .before .before .before .before .args .t) (sym (c .before .before .before .is-corner .ensures) ∙ not-false _ (c .before .before .if1 .left)) (sym (c .before .is-corner2 .ensures) ∙ not-true _ (c .if2 .taken))
 
--- src/flip_face.rt:69:9
 is-corner-requires-3 : tie.Need-is-corner-requires-3
 is-corner-requires-3 c κs = search needs
 
--- src/flip_face.rt:70:9
 returns-3 : tie.Need-returns-3
 returns-3 c = apex-third (cornersOf (c .before .before .before .before .before .before .args .f)) (c .before .before .before .before .before .before .args .t) (sym (c .before .before .before .before .before .is-corner .ensures) ∙ not-false _ (c .before .before .before .before .if1 .left)) (sym (c .before .before .before .is-corner2 .ensures) ∙ not-false _ (c .before .before .if2 .left)) (sym (c .before .is-corner3 .ensures) ∙ not-true _ (c .if3 .taken))
 
--- src/flip_face.rt:60:1
 returns-4 : tie.Need-returns-4
 returns-4 c = apex-last (cornersOf (c .before .before .before .before .before .before .args .f)) (c .before .before .before .before .before .before .args .t) (sym (c .before .before .before .before .before .is-corner .ensures) ∙ not-false _ (c .before .before .before .before .if1 .left)) (sym (c .before .before .before .is-corner2 .ensures) ∙ not-false _ (c .before .before .if2 .left)) (sym (c .before .is-corner3 .ensures) ∙ not-false _ (c .if3 .left))
 

@@ -1,12 +1,8 @@
 -- `repair::flip_face::three_about` meets its contract. Assumes nothing.
 use mathlib.Core.Path.{refl}
-use borrow.Author.Needs.{needs}
 use Rattle.repair.proofs.flip_face.three_about.Statement.{statement}
 use Rattle.repair.proofs.flip_face.three_about.Tie as tie
-use Rattle.repair.proofs.flip_face.three_about.Reads as reads
-use Rattle.repair.proofs.flip_face.three_about.Lts as lts
 
--- src/flip_face.rt:76:1
 returns : tie.Need-returns
 unfolding Rattle.repair.specs.Trio.elementsOf
 returns c = refl

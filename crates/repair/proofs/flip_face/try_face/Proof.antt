@@ -6,71 +6,49 @@ use Rattle.repair.proofs.Laws.Flip.FaceTried.{face-first, face-second, 
 use borrow.Author.Needs.{needs}
 use Rattle.repair.proofs.flip_face.try_face.Statement.{statement}
 use Rattle.repair.proofs.flip_face.try_face.Tie as tie
-use Rattle.repair.proofs.flip_face.try_face.Reads as reads
-use Rattle.repair.proofs.flip_face.try_face.Lts as lts
-use Rattle.repair.proofs.flip_face.apex.Reads as apex-reads
-use Rattle.repair.proofs.flip_face.slot.Reads as slot-reads
-use Rattle.repair.proofs.flip_face.three_about.Reads as three-about-reads
-use Rattle.repair.proofs.flip_find.any_live.Reads as any-live-reads
-use Rattle.repair.proofs.flip_replace.replace.Reads as replace-reads
 
--- src/flip_face.rt:118:9
 slot-requires : tie.Need-slot-requires
 slot-requires c κs = search needs
 
--- src/flip_face.rt:119:9
 slot-requires-2 : tie.Need-slot-requires-2
 slot-requires-2 c κs = search needs
 
--- src/flip_face.rt:121:9
 same-length : tie.Need-same-length
 same-length c = search needs
 
--- src/flip_face.rt:121:9
 returns : tie.Need-returns
 returns c = (λ n ts s z l fl st b. face-first (measure (pointsOf (c .before .before .before .before .before .before .before .before .args .x .vertices) (c .before .before .before .before .before .before .before .before .args .points .now))) (c .before .before .before .before .before .before .before .before .args .x) n (c .before .before .before .before .before .before .before .before .args .t) (c .before .before .before .before .before .before .before .before .args .work .now) ts s (c .before .before .before .before .before .before .before .before .args .f) (c .before .before .before .before .before .before .before .before .args .i) (c .before .before .before .before .before .before .before .before .args .j) z l fl st b _ _ (c .before .before .before .before .slot .ensures) (c .before .before .slot2 .ensures) (c .if1 .taken), counts-same (c .before .before .before .before .before .before .before .before .pre))
 
--- src/flip_face.rt:124:9
 same-length-2 : tie.Need-same-length-2
 same-length-2 c = search needs
 
--- src/flip_face.rt:124:9
 returns-2 : tie.Need-returns-2
 returns-2 c = (λ n ts s z l fl st b. face-second (measure (pointsOf (c .before .before .before .before .before .before .before .before .before .before .args .x .vertices) (c .before .before .before .before .before .before .before .before .before .before .args .points .now))) (c .before .before .before .before .before .before .before .before .before .before .args .x) n (c .before .before .before .before .before .before .before .before .before .before .args .t) (c .before .before .before .before .before .before .before .before .before .before .args .work .now) ts s (c .before .before .before .before .before .before .before .before .before .before .args .f) (c .before .before .before .before .before .before .before .before .before .before .args .i) (c .before .before .before .before .before .before .before .before .before .before .args .j) z l fl st b _ _ (c .before .before .before .before .before .before .slot .ensures) (c .before .before .before .before .slot2 .ensures) (c .before .before .if1 .left) (c .if2 .taken), counts-same (c .before .before .before .before .before .before .before .before .before .before .pre))
 
--- src/flip_face.rt:126:9
 apex-requires : tie.Need-apex-requires
 apex-requires c κs = search needs
 
--- src/flip_face.rt:127:9
 apex-requires-2 : tie.Need-apex-requires-2
 apex-requires-2 c κs = search needs
 
--- src/flip_face.rt:128:8
 any-live-requires : tie.Need-any-live-requires
 any-live-requires c κs = search needs
 
--- src/flip_face.rt:129:9
 same-length-3 : tie.Need-same-length-3
 same-length-3 c = search needs
 
--- src/flip_face.rt:129:9
 returns-3 : tie.Need-returns-3
 returns-3 c = (λ n ts s z l fl st b. face-edge (measure (pointsOf (c .before .before .before .before .before .before .before .before .before .before .before .before .before .before .before .args .x .vertices) (c .before .before .before .before .before .before .before .before .before .before .before .before .before .before .before .args .points .now))) (c .before .before .before .before .before .before .before .before .before .before .before .before .before .before .before .args .x) n (c .before .before .before .before .before .before .before .before .before .before .before .before .before .before .before .args .t) (c .before .before .before .before .before .before .before .before .before .before .before .before .before .before .before .args .work .now) ts s (c .before .before .before .before .before .before .before .before .before .before .before .before .before .before .before .args .f) (c .before .before .before .before .before .before .before .before .before .before .before .before .before .before .before .args .i) (c .before .before .before .before .before .before .before .before .before .before .before .before .before .before .before .args .j) z l fl st b _ _ (c .before .before .before .before .before .before .before .before .before .before .before .slot .ensures) (c .before .before .before .before .before .before .before .before .before .slot2 .ensures) (c .before .before .before .before .before .before .before .if1 .left) (c .before .before .before .before .before .if2 .left) _ _ (c .before .before .before .before .apex .ensures) (c .before .before .before .apex2 .ensures) _ (c .before .any-live .ensures) (c .if3 .taken), counts-same (c .before .before .before .before .before .before .before .before .before .before .before .before .before .before .before .pre))
 
--- src/flip_face.rt:138:9
 three-about-requires : tie.Need-three-about-requires
 three-about-requires c κs = search needs
 
--- src/flip_face.rt:139:5
 replace-requires : tie.Need-replace-requires
 replace-requires c κs = (c .before .before .before .before .before .before .before .before .before .before .before .before .before .before .before .before .before .pre)
 
--- src/flip_face.rt:103:1
 same-length-4 : tie.Need-same-length-4
 same-length-4 c = search needs
 
--- src/flip_face.rt:103:1
 returns-4 : tie.Need-returns-4
 returns-4 c = (λ n ts s z l fl st b. face-made (measure (pointsOf (c .before .before .before .before .before .before .before .before .before .before .before .before .before .before .before .before .before .before .before .before .args .x .vertices) (c .before .before .before .before .before .before .before .before .before .before .before .before .before .before .before .before .before .before .before .before .args .points .now))) (c .before .before .before .before .before .before .before .before .before .before .before .before .before .before .before .before .before .before .before .before .args .x) n (c .before .before .before .before .before .before .before .before .before .before .before .before .before .before .before .before .before .before .before .before .args .t) (c .before .before .before .before .before .before .before .before .before .before .before .before .before .before .before .before .before .before .before .before .args .work .now) ts s (c .before .before .before .before .before .before .before .before .before .before .before .before .before .before .before .before .before .before .before .before .args .f) (c .before .before .before .before .before .before .before .before .before .before .before .before .before .before .before .before .before .before .before .before .args .i) (c .before .before .before .before .before .before .before .before .before .before .before .before .before .before .before .before .before .before .before .before .args .j) z l fl st b _ _ (c .before .before .before .before .before .before .before .before .before .before .before .before .before .before .before .before .slot .ensures) (c .before .before .before .before .before .before .before .before .before .before .before .before .before .before .slot2 .ensures) (c .before .before .before .before .before .before .before .before .before .before .before .before .if1 .left) (c .before .before .before .before .before .before .before .before .before .before .if2 .left) _ _ (c .before .before .before .before .before .before .before .before .before .apex .ensures) (c .before .before .before .before .before .before .before .before .apex2 .ensures) _ (c .before .before .before .before .before .before .any-live .ensures) (c .before .before .before .before .before .if3 .left) _ (c .before .before .before .before .three-about .ensures) _ _ (c .before .before .replace .ensures .0), c .before .before .replace .ensures .1)
 

@@ -3,43 +3,31 @@ use Rattle.repair.proofs.Laws.Flip.Replaced.{adds-two, adds-three}
 use borrow.Author.Needs.{needs}
 use Rattle.repair.proofs.flip_replace.add_slots.Statement.{statement}
 use Rattle.repair.proofs.flip_replace.add_slots.Tie as tie
-use Rattle.repair.proofs.flip_replace.add_slots.Reads as reads
-use Rattle.repair.proofs.flip_replace.add_slots.Lts as lts
-use Rattle.repair.proofs.flip_slots.add_slot.Reads as add-slot-reads
 
--- src/flip_replace.rt:55:5
 add-slot-requires : tie.Need-add-slot-requires
 add-slot-requires c κs = search needs
 
--- src/flip_replace.rt:56:23
 add-add-slot : tie.Need-add-add-slot
 add-add-slot c = search needs
 
--- src/flip_replace.rt:56:5
 add-slot-requires-2 : tie.Need-add-slot-requires-2
 add-slot-requires-2 c κs = search needs
 
--- src/flip_replace.rt:58:9
 same-length : tie.Need-same-length
 same-length c = search needs
 
--- src/flip_replace.rt:58:9
 returns : tie.Need-returns
 returns c = adds-two (c .before .before .before .before .before .before .before .before .before .before .before .before .before .before .args .x) (c .before .before .before .before .before .before .before .before .before .before .before .before .before .before .args .c) (c .before .before .before .before .before .before .before .before .before .before .before .before .before .before .args .new) (c .before .before .before .before .before .before .before .before .before .before .before .before .before .before .args .work .now) _ _ (c .if1 .taken) (c .before .before .before .before .before .before .before .before .add-slot .ensures) (c .before .before .before .before .add-slot2 .ensures)
 
--- src/flip_replace.rt:60:23
 add-add-slot-2 : tie.Need-add-add-slot-2
 add-add-slot-2 c = search needs
 
--- src/flip_replace.rt:60:5
 add-slot-requires-3 : tie.Need-add-slot-requires-3
 add-slot-requires-3 c κs = search needs
 
--- src/flip_replace.rt:48:1
 same-length-2 : tie.Need-same-length-2
 same-length-2 c = search needs
 
--- src/flip_replace.rt:48:1
 returns-2 : tie.Need-returns-2
 returns-2 c = adds-three (c .before .before .before .before .before .before .before .before .before .before .before .before .before .before .before .before .before .before .args .x) (c .before .before .before .before .before .before .before .before .before .before .before .before .before .before .before .before .before .before .args .c) (c .before .before .before .before .before .before .before .before .before .before .before .before .before .before .before .before .before .before .args .new) (c .before .before .before .before .before .before .before .before .before .before .before .before .before .before .before .before .before .before .args .work .now) _ _ _ (c .before .before .before .before .if1 .left) (c .before .before .before .before .before .before .before .before .before .before .before .before .add-slot .ensures) (c .before .before .before .before .before .before .before .before .add-slot2 .ensures) (c .before .before .add-slot3 .ensures)
 

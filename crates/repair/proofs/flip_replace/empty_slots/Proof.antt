@@ -3,35 +3,25 @@ use Rattle.repair.proofs.Laws.Flip.Replaced.{empties-two, empties-three
 use borrow.Author.Needs.{needs}
 use Rattle.repair.proofs.flip_replace.empty_slots.Statement.{statement}
 use Rattle.repair.proofs.flip_replace.empty_slots.Tie as tie
-use Rattle.repair.proofs.flip_replace.empty_slots.Reads as reads
-use Rattle.repair.proofs.flip_replace.empty_slots.Lts as lts
-use Rattle.repair.proofs.flip_slots.empty_slot.Reads as empty-slot-reads
 
--- src/flip_replace.rt:39:5
 empty-slot-requires : tie.Need-empty-slot-requires
 empty-slot-requires c κs = search needs
 
--- src/flip_replace.rt:40:5
 empty-slot-requires-2 : tie.Need-empty-slot-requires-2
 empty-slot-requires-2 c κs = search needs
 
--- src/flip_replace.rt:42:9
 same-length : tie.Need-same-length
 same-length c = search needs
 
--- src/flip_replace.rt:42:9
 returns : tie.Need-returns
 returns c = empties-two (c .before .before .before .before .before .before .before .before .before .before .args .x) (c .before .before .before .before .before .before .before .before .before .before .args .count) (c .before .before .before .before .before .before .before .before .before .before .args .at) (c .before .before .before .before .before .before .before .before .before .before .args .work .now) _ _ (c .if1 .taken) (c .before .before .before .before .before .before .before .empty-slot .ensures) (c .before .before .before .empty-slot2 .ensures)
 
--- src/flip_replace.rt:44:5
 empty-slot-requires-3 : tie.Need-empty-slot-requires-3
 empty-slot-requires-3 c κs = search needs
 
--- src/flip_replace.rt:35:1
 same-length-2 : tie.Need-same-length-2
 same-length-2 c = search needs
 
--- src/flip_replace.rt:35:1
 returns-2 : tie.Need-returns-2
 returns-2 c = empties-three (c .before .before .before .before .before .before .before .before .before .before .before .before .before .before .args .x) (c .before .before .before .before .before .before .before .before .before .before .before .before .before .before .args .count) (c .before .before .before .before .before .before .before .before .before .before .before .before .before .before .args .at) (c .before .before .before .before .before .before .before .before .before .before .before .before .before .before .args .work .now) _ _ _ (c .before .before .before .before .if1 .left) (c .before .before .before .before .before .before .before .before .before .before .before .empty-slot .ensures) (c .before .before .before .before .before .before .before .empty-slot2 .ensures) (c .before .before .empty-slot3 .ensures)
 

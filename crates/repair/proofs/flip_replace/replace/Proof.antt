@@ -7,63 +7,43 @@ use Rattle.repair.proofs.Laws.Flip.Replaced.{replace-not, replace-fits,
 use borrow.Author.Needs.{needs}
 use Rattle.repair.proofs.flip_replace.replace.Statement.{statement}
 use Rattle.repair.proofs.flip_replace.replace.Tie as tie
-use Rattle.repair.proofs.flip_replace.replace.Reads as reads
-use Rattle.repair.proofs.flip_replace.replace.Lts as lts
-use Rattle.repair.proofs.flip_replace.add_slots.Reads as add-slots-reads
-use Rattle.repair.proofs.flip_replace.empty_slots.Reads as empty-slots-reads
-use Rattle.repair.proofs.flip_replace.size.Reads as size-reads
-use Rattle.repair.proofs.orient.is_accepted.Reads as is-accepted-reads
-use Rattle.repair.proofs.orient.orient.Reads as orient-reads
 
--- src/flip_replace.rt:80:14
 cast-nv : tie.Need-cast-nv
 cast-nv c = search needs
 
--- src/flip_replace.rt:81:9
 orient-requires : tie.Need-orient-requires
 orient-requires c κs = search needs
 
--- src/flip_replace.rt:82:9
 is-accepted-requires : tie.Need-is-accepted-requires
 is-accepted-requires c κs = search needs
 
--- src/flip_replace.rt:83:9
 returns : tie.Need-returns
 returns c = (λ n s z o ok room. replace-not (measure (pointsOf (c .before .before .before .before .before .before .args .x .vertices) (c .before .before .before .before .before .before .args .points .now))) (c .before .before .before .before .before .before .args .x) n (c .before .before .before .before .before .before .args .t) (c .before .before .before .before .before .before .args .work .now) s z (c .before .before .before .before .before .before .args .at) (c .before .before .before .before .before .before .args .old) (c .before .before .before .before .before .before .args .candidates) _ o (c .before .before .orient .ensures .1) (sym (c .before .is-accepted .ensures) ∙ not-true _ (c .if1 .taken)), counts-same (c .before .before .before .before .before .before .pre))
 
--- src/flip_replace.rt:85:9
 size-requires : tie.Need-size-requires
 size-requires c κs = search needs
 
--- src/flip_replace.rt:86:17
 add-if2 : tie.Need-add-if2
 add-if2 c = search needs
 
--- src/flip_replace.rt:87:9
 returns-2 : tie.Need-returns-2
 returns-2 c = (λ n s z o ok room. absurd (replace-fits (measure (pointsOf (c .before .before .before .before .before .before .before .before .before .before .args .x .vertices) (c .before .before .before .before .before .before .before .before .before .before .args .points .now))) (c .before .before .before .before .before .before .before .before .before .before .args .x) n (c .before .before .before .before .before .before .before .before .before .before .args .t) (c .before .before .before .before .before .before .before .before .before .before .args .work .now) s z (c .before .before .before .before .before .before .before .before .before .before .args .at) (c .before .before .before .before .before .before .before .before .before .before .args .old) (c .before .before .before .before .before .before .before .before .before .before .args .candidates) _ o (c .before .before .before .before .before .before .orient .ensures .1) room _ (c .before .before .before .size .ensures .0) (c .if2 .taken)), counts-same (c .before .before .before .before .before .before .before .before .before .before .pre))
 
--- src/flip_replace.rt:89:5
 empty-slots-requires : tie.Need-empty-slots-requires
 empty-slots-requires c κs = search needs
 
--- src/flip_replace.rt:90:5
 add-slots-requires : tie.Need-add-slots-requires
 add-slots-requires c κs = search needs
 
--- src/flip_replace.rt:92:16
 add-t13 : tie.Need-add-t13
 add-t13 c = search needs
 
--- src/flip_replace.rt:93:16
 add-t19 : tie.Need-add-t19
 add-t19 c = search needs
 
--- src/flip_replace.rt:64:1
 same-length : tie.Need-same-length
 same-length c = search needs
 
--- src/flip_replace.rt:64:1
 returns-3 : tie.Need-returns-3
 returns-3 c = (λ n s z o ok room. replace-made (measure (pointsOf (c .before .before .before .before .before .before .before .before .before .before .before .before .before .before .before .before .before .before .before .before .args .x .vertices) (c .before .before .before .before .before .before .before .before .before .before .before .before .before .before .before .before .before .before .before .before .args .points .now))) (c .before .before .before .before .before .before .before .before .before .before .before .before .before .before .before .before .before .before .before .before .args .x) n (c .before .before .before .before .before .before .before .before .before .before .before .before .before .before .before .before .before .before .before .before .args .t) (c .before .before .before .before .before .before .before .before .before .before .before .before .before .before .before .before .before .before .before .before .args .work .now) s z (c .before .before .before .before .before .before .before .before .before .before .before .before .before .before .before .before .before .before .before .before .args .at) (c .before .before .before .before .before .before .before .before .before .before .before .before .before .before .before .before .before .before .before .before .args .old) (c .before .before .before .before .before .before .before .before .before .before .before .before .before .before .before .before .before .before .before .before .args .candidates) _ o (c .before .before .before .before .before .before .before .before .before .before .before .before .before .before .before .before .orient .ensures .1) (sym (c .before .before .before .before .before .before .before .before .before .before .before .before .before .before .before .is-accepted .ensures) ∙ not-false _ (c .before .before .before .before .before .before .before .before .before .before .before .before .before .before .if1 .left)) ok room _ _ (c .before .before .before .before .before .before .before .before .empty-slots .ensures) (c .before .before .before .before .add-slots .ensures) _ (c .before .before .before .before .before .before .before .before .before .before .before .before .before .size .ensures .0), counts-more (c .before .before .before .before .before .before .before .before .before .before .before .before .before .before .before .before .before .before .before .before .pre) _ (c .before .before .before .before .before .before .before .before .before .before .if2 .left))
 

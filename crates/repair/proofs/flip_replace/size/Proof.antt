@@ -1,16 +1,11 @@
 -- `repair::flip_replace::size` meets its contract. Assumes nothing.
 use Rattle.repair.proofs.Laws.Flip.Replaced.{size-two, size-three}
-use borrow.Author.Needs.{needs}
 use Rattle.repair.proofs.flip_replace.size.Statement.{statement}
 use Rattle.repair.proofs.flip_replace.size.Tie as tie
-use Rattle.repair.proofs.flip_replace.size.Reads as reads
-use Rattle.repair.proofs.flip_replace.size.Lts as lts
 
--- src/flip_replace.rt:29:9
 returns : tie.Need-returns
 returns c = size-two (c .before .before .args .u) (c .if1 .taken)
 
--- src/flip_replace.rt:25:1
 returns-2 : tie.Need-returns-2
 returns-2 c = size-three (c .before .before .args .u) (c .if1 .left)
 

@@ -7,28 +7,19 @@ use Rattle.repair.proofs.Laws.Flip.Written.{slot-added}
 use borrow.Author.Needs.{needs}
 use Rattle.repair.proofs.flip_slots.add_slot.Statement.{statement}
 use Rattle.repair.proofs.flip_slots.add_slot.Tie as tie
-use Rattle.repair.proofs.flip_slots.add_slot.Reads as reads
-use Rattle.repair.proofs.flip_slots.add_slot.Lts as lts
-use Rattle.mesh.proofs.star.append.Reads as append-reads
-use Rattle.repair.proofs.flip_slots.put_slot.Reads as put-slot-reads
 
--- src/flip_slots.rt:52:5
 put-slot-requires : tie.Need-put-slot-requires
 put-slot-requires c κs = search needs
 
--- src/flip_slots.rt:53:24
 add-append : tie.Need-add-append
 add-append c = search needs
 
--- src/flip_slots.rt:53:5
 append-requires : tie.Need-append-requires
 append-requires c κs = search needs
 
--- src/flip_slots.rt:47:1
 same-length : tie.Need-same-length
 same-length c = search needs
 
--- src/flip_slots.rt:47:1
 returns : tie.Need-returns
 returns c = λ n s h g z. slot-added z (c .before .before .before .before .before .before .before .before .before .args .t) g h _ (c .before .before .append .ensures ∙ ap (λ (u : List ℕ). appended (c .before .before .before .before .before .before .before .before .before .args .x) (c .before .before .before .before .before .before .before .before .before .args .c) (c .before .before .before .before .before .before .before .before .before .args .c + 1) u) (c .before .before .before .before .before .before .put-slot .ensures))
 

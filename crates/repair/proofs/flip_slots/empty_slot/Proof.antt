@@ -3,19 +3,13 @@ use Rattle.repair.proofs.Laws.Flip.Written.{slot-emptied}
 use borrow.Author.Needs.{needs}
 use Rattle.repair.proofs.flip_slots.empty_slot.Statement.{statement}
 use Rattle.repair.proofs.flip_slots.empty_slot.Tie as tie
-use Rattle.repair.proofs.flip_slots.empty_slot.Reads as reads
-use Rattle.repair.proofs.flip_slots.empty_slot.Lts as lts
-use Rattle.repair.proofs.flip_slots.put_slot.Reads as put-slot-reads
 
--- src/flip_slots.rt:43:5
 put-slot-requires : tie.Need-put-slot-requires
 put-slot-requires c κs = search needs
 
--- src/flip_slots.rt:32:1
 same-length : tie.Need-same-length
 same-length c = search needs
 
--- src/flip_slots.rt:32:1
 returns : tie.Need-returns
 returns c = λ n k s h z. slot-emptied z (c .before .before .before .before .before .args .e) h _ (c .before .before .put-slot .ensures)
 

@@ -1,7 +1,7 @@
 -- `repair::flip_tries::try_faces` meets its contract. The invariant: the faces so far are tried, and the rows are kept. Assumes nothing.
 use native.Mathlib.Omega.{arith}
 use Prim.Native.Nat.{_-_}
-use Rattle.repair.proofs.Laws.Flip.Tries.{AtFace, faces-start, faces-turn, faces-end, face-room, face-counted}
+use Rattle.repair.proofs.Laws.Flip.Tries.{AtFace, faces-start, faces-turn, faces-end, face-counted}
 use borrow.Author.Needs.{needs}
 use Rattle.repair.proofs.flip_tries.try_faces.Statement.{statement}
 use Rattle.repair.proofs.flip_tries.try_faces.Tie as tie
@@ -34,7 +34,7 @@ add-p : tie.Need-add-p Inv-loop μ-loop
 add-p c = search needs
 
 triple-from-requires : tie.Need-triple-from-requires Inv-loop μ-loop
-triple-from-requires c κs = let h = face-room (c .before .before .before .before .before .before .before .pre .0) (c .before .before .before .before .before .before .before .pre .1) (c .before .before .loop .inv) (c .before .loop-test .taken) in omega arith
+triple-from-requires c κs = search needs
 
 add-word : tie.Need-add-word Inv-loop μ-loop
 add-word c = search needs

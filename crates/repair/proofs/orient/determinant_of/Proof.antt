@@ -2,32 +2,22 @@
 use borrow.Author.Needs.{needs}
 use Rattle.repair.proofs.orient.determinant_of.Statement.{statement}
 use Rattle.repair.proofs.orient.determinant_of.Tie as tie
-use Rattle.repair.proofs.orient.determinant_of.Reads as reads
-use Rattle.repair.proofs.orient.determinant_of.Lts as lts
-use Rattle.geometry.proofs.point.determinant.Reads as determinant-reads
-use Rattle.mesh.proofs.list.vertex_point.Reads as vertex-point-reads
 
--- src/orient.rt:31:9
 vertex-point-requires : tie.Need-vertex-point-requires
 vertex-point-requires c κs = search needs
 
--- src/orient.rt:32:9
 vertex-point-requires-2 : tie.Need-vertex-point-requires-2
 vertex-point-requires-2 c κs = search needs
 
--- src/orient.rt:33:9
 vertex-point-requires-3 : tie.Need-vertex-point-requires-3
 vertex-point-requires-3 c κs = search needs
 
--- src/orient.rt:34:9
 vertex-point-requires-4 : tie.Need-vertex-point-requires-4
 vertex-point-requires-4 c κs = search needs
 
--- src/orient.rt:35:5
 determinant-requires : tie.Need-determinant-requires
 determinant-requires c κs = search needs
 
--- src/orient.rt:28:1
 returns : tie.Need-returns
 returns c = cc
 

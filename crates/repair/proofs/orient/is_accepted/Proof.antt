@@ -7,43 +7,30 @@ use Rattle.repair.proofs.Laws.Flip.Trio.{accepted-flat, accepted-low, a
 use borrow.Author.Needs.{needs}
 use Rattle.repair.proofs.orient.is_accepted.Statement.{statement}
 use Rattle.repair.proofs.orient.is_accepted.Tie as tie
-use Rattle.repair.proofs.orient.is_accepted.Reads as reads
-use Rattle.repair.proofs.orient.is_accepted.Lts as lts
-use Rattle.repair.proofs.orient.all_above.Reads as all-above-reads
-use Rattle.repair.proofs.orient.same_volume.Reads as same-volume-reads
-use Rattle.repair.proofs.orient.tally_trio.Reads as tally-trio-reads
 
--- src/orient.rt:134:9
 all-above-requires : tie.Need-all-above-requires
 all-above-requires c κs = search needs
 
--- src/orient.rt:135:9
 returns : tie.Need-returns
 returns c = accepted-flat (measure (pointsOf (c .before .before .before .args .nv) (c .before .before .before .args .points .now))) (elementsOf (c .before .before .before .args .old)) (elementsOf (c .before .before .before .args .new)) _ (c .before .all-above .ensures) (not-true _ (c .if1 .taken))
 
--- src/orient.rt:137:9
 tally-trio-requires : tie.Need-tally-trio-requires
 tally-trio-requires c κs = search needs
 
--- src/orient.rt:138:9
 tally-trio-requires-2 : tie.Need-tally-trio-requires-2
 tally-trio-requires-2 c κs = search needs
 
--- src/orient.rt:140:9
 returns-2 : tie.Need-returns-2
 unfolding lib.Ieee.ofBits
 returns-2 c = accepted-low (measure (pointsOf (c .before .before .before .before .before .before .before .before .args .nv) (c .before .before .before .before .before .before .before .before .args .points .now))) (elementsOf (c .before .before .before .before .before .before .before .before .args .old)) (elementsOf (c .before .before .before .before .before .before .before .before .args .new)) _ (c .before .before .before .before .before .before .all-above .ensures) (not-false _ (c .before .before .before .before .before .if1 .left)) _ _ (c .before .before .before .before .tally-trio .ensures) (c .before .before .before .tally-trio2 .ensures) (not-true _ (c .if2 .taken))
 
--- src/orient.rt:143:9
 returns-3 : tie.Need-returns-3
 unfolding lib.Ieee.ofBits
 returns-3 c = accepted-bad (measure (pointsOf (c .before .before .before .before .before .before .before .before .before .before .before .args .nv) (c .before .before .before .before .before .before .before .before .before .before .before .args .points .now))) (elementsOf (c .before .before .before .before .before .before .before .before .before .before .before .args .old)) (elementsOf (c .before .before .before .before .before .before .before .before .before .before .before .args .new)) _ (c .before .before .before .before .before .before .before .before .before .all-above .ensures) (not-false _ (c .before .before .before .before .before .before .before .before .if1 .left)) _ _ (c .before .before .before .before .before .before .before .tally-trio .ensures) (c .before .before .before .before .before .before .tally-trio2 .ensures) (not-false _ (c .before .before .before .if2 .left)) (c .if3 .taken)
 
--- src/orient.rt:145:5
 same-volume-requires : tie.Need-same-volume-requires
 same-volume-requires c κs = search needs
 
--- src/orient.rt:131:1
 returns-4 : tie.Need-returns-4
 unfolding lib.Ieee.ofBits
 returns-4 c = accepted-volume (measure (pointsOf (c .before .before .before .before .before .before .before .before .before .before .before .before .args .nv) (c .before .before .before .before .before .before .before .before .before .before .before .before .args .points .now))) (elementsOf (c .before .before .before .before .before .before .before .before .before .before .before .before .args .old)) (elementsOf (c .before .before .before .before .before .before .before .before .before .before .before .before .args .new)) _ (c .before .before .before .before .before .before .before .before .before .before .all-above .ensures) (not-false _ (c .before .before .before .before .before .before .before .before .before .if1 .left)) _ _ (c .before .before .before .before .before .before .before .before .tally-trio .ensures) (c .before .before .before .before .before .before .before .tally-trio2 .ensures) (not-false _ (c .before .before .before .before .if2 .left)) (c .before .if3 .left) _ (c .same-volume .ensures)

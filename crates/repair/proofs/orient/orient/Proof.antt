@@ -7,23 +7,16 @@ use Rattle.repair.proofs.Laws.Flip.Trio.{elements-map}
 use borrow.Author.Needs.{needs}
 use Rattle.repair.proofs.orient.orient.Statement.{statement}
 use Rattle.repair.proofs.orient.orient.Tie as tie
-use Rattle.repair.proofs.orient.orient.Reads as reads
-use Rattle.repair.proofs.orient.orient.Lts as lts
-use Rattle.repair.proofs.orient.orient_one.Reads as orient-one-reads
 
--- src/orient.rt:63:12
 orient-one-requires : tie.Need-orient-one-requires
 orient-one-requires c κs = search needs
 
--- src/orient.rt:64:12
 orient-one-requires-2 : tie.Need-orient-one-requires-2
 orient-one-requires-2 c κs = search needs
 
--- src/orient.rt:65:12
 orient-one-requires-3 : tie.Need-orient-one-requires-3
 orient-one-requires-3 c κs = search needs
 
--- src/orient.rt:55:1
 returns : tie.Need-returns
 returns c = (refl, elements-map (oriented (measure (pointsOf (c .before .before .before .before .before .before .before .args .nv) (c .before .before .before .before .before .before .before .args .points .now)))) (c .before .before .before .before .before .before .before .args .u) _ refl (c .before .before .orient-one .ensures) (c .before .orient-one2 .ensures) (c .orient-one3 .ensures))
 

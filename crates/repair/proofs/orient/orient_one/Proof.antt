@@ -4,20 +4,14 @@ use Rattle.repair.proofs.Laws.Flip.Trio.{oriented-below, oriented-other
 use borrow.Author.Needs.{needs}
 use Rattle.repair.proofs.orient.orient_one.Statement.{statement}
 use Rattle.repair.proofs.orient.orient_one.Tie as tie
-use Rattle.repair.proofs.orient.orient_one.Reads as reads
-use Rattle.repair.proofs.orient.orient_one.Lts as lts
-use Rattle.repair.proofs.orient.determinant_of.Reads as determinant-of-reads
 
--- src/orient.rt:42:9
 determinant-of-requires : tie.Need-determinant-of-requires
 determinant-of-requires c κs = search needs
 
--- src/orient.rt:44:9
 returns : tie.Need-returns
 unfolding lib.Ieee.ofBits
 returns c = oriented-below (pointsOf (c .before .before .before .args .nv) (c .before .before .before .args .points .now)) (c .before .before .before .args .t) _ (c .before .determinant-of .ensures) (c .if1 .taken)
 
--- src/orient.rt:39:1
 returns-2 : tie.Need-returns-2
 unfolding lib.Ieee.ofBits
 returns-2 c = oriented-other (pointsOf (c .before .before .before .args .nv) (c .before .before .before .args .points .now)) (c .before .before .before .args .t) _ (c .before .determinant-of .ensures) (c .if1 .left)

@@ -4,28 +4,20 @@ use Rattle.repair.proofs.Laws.Flip.Trio.{volume-two, volume-three}
 use borrow.Author.Needs.{needs}
 use Rattle.repair.proofs.orient.volume.Statement.{statement}
 use Rattle.repair.proofs.orient.volume.Tie as tie
-use Rattle.repair.proofs.orient.volume.Reads as reads
-use Rattle.repair.proofs.orient.volume.Lts as lts
-use Rattle.repair.proofs.orient.determinant_of.Reads as determinant-of-reads
 
--- src/orient.rt:111:9
 determinant-of-requires : tie.Need-determinant-of-requires
 determinant-of-requires c κs = search needs
 
--- src/orient.rt:112:9
 determinant-of-requires-2 : tie.Need-determinant-of-requires-2
 determinant-of-requires-2 c κs = search needs
 
--- src/orient.rt:115:9
 returns : tie.Need-returns
 unfolding lib.Ieee.ofBits lib.Ieee.neg
 returns c = volume-two (pointsOf (c .before .before .before .before .before .before .before .before .args .nv) (c .before .before .before .before .before .before .before .before .args .points .now)) (c .before .before .before .before .before .before .before .before .args .u) _ _ (c .before .before .before .determinant-of .ensures) (c .before .before .determinant-of2 .ensures) (c .if1 .taken)
 
--- src/orient.rt:117:9
 determinant-of-requires-3 : tie.Need-determinant-of-requires-3
 determinant-of-requires-3 c κs = search needs
 
--- src/orient.rt:105:1
 returns-2 : tie.Need-returns-2
 unfolding lib.Ieee.ofBits lib.Ieee.neg
 returns-2 c = volume-three (pointsOf (c .before .before .before .before .before .before .before .before .before .args .nv) (c .before .before .before .before .before .before .before .before .before .args .points .now)) (c .before .before .before .before .before .before .before .before .before .args .u) _ _ (c .before .before .before .before .determinant-of .ensures) (c .before .before .before .determinant-of2 .ensures) (c .before .if1 .left) _ (c .determinant-of3 .ensures)
