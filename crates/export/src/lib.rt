@@ -2,13 +2,12 @@
 // themselves, an array as a pointer to its first number. A box is lo and hi per direction: x, y, z.
 pub mod passes;
 
-use geometry::bounds::Bounds;
-use geometry::bounds::Cells;
-use geometry::bounds::Options;
-use geometry::field::Field;
 use geometry::point::Point;
-use mesh::boundary::Outcome;
+use interface::arrays::bounds_of;
+use interface::arrays::field_of;
+use interface::arrays::options_of;
 ghost use mathlib.Core.Path.{_≡_};
+ghost use mathlib.Core.List.{[], _∷_};
 ghost use Prim.Native.Nat.{_<_, _*_, _%_, _/_};
 ghost use lib.ListN.{length};
 ghost use lib.Dec.{eqb};
@@ -19,9 +18,9 @@ ghost use Rattle.geometry.specs.Bounds.{spacing, canonicalValue, cap};
 ghost use Rattle.geometry.specs.Rank.{rankValue};
 ghost use Rattle.geometry.specs.Field.{value, gradient};
 ghost use Rattle.mesh.specs.Manifold.{nonmanifoldIn};
-ghost use Rattle.mesh.specs.Surface.{boundaryCall};
 ghost use Rattle.mesh.specs.Words.{copied};
-ghost use Rattle.export.specs.Arrays.{pointOf, boundsOf, optionsOf, fieldOf, along, answerOver, asNumber};
+ghost use Rattle.interface.specs.Arrays.{pointOf, boundsOf, optionsOf, fieldOf};
+ghost use Rattle.export.specs.Answers.{along, asNumber};
 
 #[no_mangle]
 pub extern "C" fn h_root(x: f64) -> f64
@@ -73,34 +72,12 @@ pub extern "C" fn h_norm(p: &[f64; 3]) -> f64
     })
 }
 
-fn bounds(b: &[f64; 6]) -> Bounds
-    ensures { λ r. ⌜ r ≡ boundsOf (now (b .entry)) ⌝ }
-{
-    Bounds {
-        lo: Point {
-            x: b[0],
-            y: b[2],
-            z: b[4],
-        },
-        hi: Point {
-            x: b[1],
-            y: b[3],
-            z: b[5],
-        },
-    }
-}
-
 #[no_mangle]
 pub extern "C" fn h_spacing(b: &[f64; 6], x: u32, y: u32, z: u32) -> f64
-    ensures { λ r. ⌜ r ≡ spacing (optionsOf (now (b .entry)) x y z) ⌝ }
+    ensures { λ r. ⌜ r ≡ spacing (optionsOf (now (b .entry)) (x ∷ y ∷ z ∷ 0 ∷ 0 ∷ [])) ⌝ }
 {
-    let cells = Cells { x: x, y: y, z: z };
-    geometry::bounds::spacing(Options {
-        bounds: bounds(b),
-        cells: cells,
-        periodic: 0,
-        passes: 0,
-    })
+    let n = [x, y, z, 0, 0];
+    geometry::bounds::spacing(options_of(b, &n))
 }
 
 #[no_mangle]
@@ -121,26 +98,8 @@ pub extern "C" fn h_cap(b: &[f64; 6], p: &[f64; 3]) -> u64
             y: p[1],
             z: p[2],
         },
-        bounds(b),
+        bounds_of(b),
     )
-}
-
-// Kind 0 is a level, 1 a plane, and any other a ball.
-fn field(kind: u32, f: &[f64; 4]) -> Field
-    ensures { λ r. ⌜ r ≡ fieldOf kind (now (f .entry)) ⌝ }
-{
-    if kind == 0 {
-        return Field::Level(f[0]);
-    }
-    let p = Point {
-        x: f[0],
-        y: f[1],
-        z: f[2],
-    };
-    if kind == 1 {
-        return Field::Plane(p, f[3]);
-    }
-    Field::Ball(p, f[3])
 }
 
 #[no_mangle]
@@ -148,7 +107,7 @@ pub extern "C" fn h_field_value(kind: u32, f: &[f64; 4], p: &[f64; 3]) -> f64
     ensures { λ r. ⌜ r ≡ value (fieldOf kind (now (f .entry))) (pointOf (now (p .entry)) 0) ⌝ }
 {
     geometry::field::value(
-        field(kind, f),
+        field_of(kind, f),
         Point {
             x: p[0],
             y: p[1],
@@ -175,7 +134,7 @@ pub extern "C" fn h_field_gradient(kind: u32, f: &[f64; 4], p: &[f64; 3], axis: 
     ensures { λ r. ⌜ r ≡ along (gradient (fieldOf kind (now (f .entry))) (pointOf (now (p .entry)) 0)) axis ⌝ }
 {
     let g = geometry::field::gradient(
-        field(kind, f),
+        field_of(kind, f),
         Point {
             x: p[0],
             y: p[1],
@@ -183,32 +142,6 @@ pub extern "C" fn h_field_gradient(kind: u32, f: &[f64; 4], p: &[f64; 3], axis: 
         },
     );
     along(g, axis)
-}
-
-// The boundary of as many elements as the slice holds. The answer is 0 and the number of triples, or
-// the table's number and 0.
-#[no_mangle]
-pub extern "C" fn h_boundary(
-    elements: &[u32],
-    surface: &mut [u32],
-    work: &mut [u32],
-    answer: &mut [u32; 2],
-)
-    ensures { λ _. ⌜ (now (surface .exit) ≡ boundaryCall (length (now (elements .entry)) / 4) (now (elements .entry)) (now (surface .entry)) (now (work .entry)) .surface)
-        × (now (work .exit) ≡ boundaryCall (length (now (elements .entry)) / 4) (now (elements .entry)) (now (surface .entry)) (now (work .entry)) .work)
-        × (now (answer .exit) ≡ answerOver (now (answer .entry)) (boundaryCall (length (now (elements .entry)) / 4) (now (elements .entry)) (now (surface .entry)) (now (work .entry)) .answer)) ⌝ }
-{
-    let found = mesh::boundary::boundary(elements, elements.len() / 4, surface, work);
-    match found {
-        Outcome::Surface(c) => {
-            answer[0] = 0;
-            answer[1] = (c % 0x1_0000_0000) as u32;
-        }
-        Outcome::Refused(k) => {
-            answer[0] = k;
-            answer[1] = 0;
-        }
-    }
 }
 
 // 1 where a surface of as many triples as the slice holds has a nonmanifold vertex, or where the work is

@@ -40,9 +40,11 @@ fn link_bridge() {
         return;
     }
     let folder = std::env::var("EXPORT_DIR").map_or(root().join("target/staticlib"), PathBuf::from);
-    println!("cargo:rerun-if-changed={}", folder.join("libexport.a").display());
     println!("cargo:rustc-link-search=native={}", folder.display());
-    println!("cargo:rustc-link-lib=static=export");
+    for name in ["export", "interface"] {
+        println!("cargo:rerun-if-changed={}", folder.join(format!("lib{name}.a")).display());
+        println!("cargo:rustc-link-lib=static={name}");
+    }
 }
 
 fn main() {

@@ -1,4 +1,4 @@
-//! The port's boundary and nonmanifold test from the export crate.
+//! The port's boundary from the interface crate and its nonmanifold test from the export crate.
 use crate::bridge::Value;
 use crate::original;
 use crate::unit::Unit;
@@ -7,13 +7,14 @@ pub const COMPARED: [&str; 2] = ["boundary", "nonmanifold"];
 
 #[rustfmt::skip]
 unsafe extern "C" {
-    /// Answer: 16 or 17 or 0, number of triples.
-    fn h_boundary(
+    /// 16 or 17 or 0.
+    fn halmafir_boundary(
         elements: *const u32, elements_len: usize,
+        count: usize,
         surface: *mut u32, surface_len: usize,
         work: *mut u32, work_len: usize,
-        answer: &mut [u32; 2],
-    );
+        triples: &mut usize,
+    ) -> u32;
     /// 1 where some vertex of the surface is nonmanifold.
     fn h_nonmanifold(
         surface: *const u32, surface_len: usize,
@@ -37,14 +38,14 @@ fn port_boundary(tets: &[[usize; 4]]) -> Value {
     let elements = flat(tets);
     let mut surface = vec![RUBBISH; 12 * tets.len() + 3];
     let mut area = work(tets.len(), 0);
-    let mut answer = [0; 2];
+    let mut triples = 0;
     // Each pointer is that of a live buffer of the length beside it.
-    unsafe {
-        let (s, w) = (surface.as_mut_ptr(), area.as_mut_ptr());
-        h_boundary(elements.as_ptr(), elements.len(), s, surface.len(), w, area.len(), &mut answer);
-    }
-    let triples = if answer[0] == 0 { answer[1] } else { 0 };
-    Value::Words([vec![answer[0], triples], surface].concat())
+    let number = unsafe {
+        let (e, s, w) = (elements.as_ptr(), surface.as_mut_ptr(), area.as_mut_ptr());
+        let (m, n) = (elements.len(), tets.len());
+        halmafir_boundary(e, m, n, s, surface.len(), w, area.len(), &mut triples)
+    };
+    Value::Words([vec![number, triples as u32], surface].concat())
 }
 
 fn judge_boundary(tets: &[[usize; 4]]) -> Value {

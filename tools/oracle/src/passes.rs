@@ -1,58 +1,88 @@
-//! The port's passes from the export crate's static library.
+//! The port's passes from the interface crate's static library, its intake from the export crate's.
 use crate::mesh::{Answer, Call, Mesh, Pass, Sizes};
 
-/// Inputs beside the mesh, as the export crate takes them: cells, periodic, passes, number of
-/// fields, whether there are regions; kinds and floats of eight fields.
+/// Inputs beside the mesh, as the interface crate takes them: cells, periodic, passes; kinds and
+/// numbers of eight fields.
 struct Plain {
-    numbers: [u32; 7],
+    settings: [u32; 5],
     kinds: [u32; 8],
-    floats: [f64; 32],
+    numbers: [f64; 32],
 }
-
-/// The port's fields are of three kinds. For another kind it gets a level at NaN, which document 01
-/// refuses with the same number.
-const UNKNOWN: (u32, [f64; 4]) = (0, [f64::NAN, 0., 0., 0.]);
 
 impl Plain {
     fn new(call: &Call) -> Self {
         let [x, y, z] = call.cells;
-        let given = u32::from(call.regions.is_some());
         let mut plain = Plain {
-            numbers: [x, y, z, call.periodic, call.passes, call.field_count, given],
+            settings: [x, y, z, call.periodic, call.passes],
             kinds: [0; 8],
-            floats: [0.; 32],
+            numbers: [0.; 32],
         };
         for (j, (kind, numbers)) in call.fields.iter().take(8).enumerate() {
-            let (kind, numbers) = if *kind > 2 { UNKNOWN } else { (*kind, *numbers) };
-            plain.kinds[j] = kind;
-            plain.floats[4 * j..4 * j + 4].copy_from_slice(&numbers);
+            plain.kinds[j] = *kind;
+            plain.numbers[4 * j..4 * j + 4].copy_from_slice(numbers);
         }
         plain
     }
 }
 
-/// Sizes in, and out: number of the table (0 if none), count, vertices, elements, triples.
-type Result5 = [u32; 5];
+/// Count, vertices, elements, triples.
+type Result4 = [usize; 4];
+
+/// A pass that may change the whole mesh.
+#[rustfmt::skip]
+type Change = unsafe extern "C" fn(
+    *mut f64, usize,
+    *mut f64, usize,
+    *mut u32, usize,
+    *mut u32, usize,
+    *mut u32, usize,
+    &[usize; 3],
+    &[f64; 6],
+    &[u32; 5],
+    u32,
+    &[u32; 8],
+    &[f64; 32],
+    *mut u32, usize,
+    *mut f64, usize,
+    &mut Result4,
+) -> u32;
 
 #[rustfmt::skip]
 unsafe extern "C" {
-    fn h_pass(
-        pass: u32,
+    fn halmafir_improve(
         parameters: *mut f64, parameters_len: usize,
         points: *mut f64, points_len: usize,
         masks: *mut u32, masks_len: usize,
         elements: *mut u32, elements_len: usize,
         surface: *mut u32, surface_len: usize,
-        sizes: &[u32; 3],
+        sizes: &[usize; 3],
         bounds: &[f64; 6],
-        numbers: &[u32; 7],
+        settings: &[u32; 5],
+        count: u32,
         kinds: &[u32; 8],
-        floats: &[f64; 32],
+        numbers: &[f64; 32],
+        words: *mut u32, words_len: usize,
+        floats: *mut f64, floats_len: usize,
+        result: &mut Result4,
+    ) -> u32;
+    fn halmafir_smooth(
+        parameters: *mut f64, parameters_len: usize,
+        points: *mut f64, points_len: usize,
+        masks: *const u32, masks_len: usize,
+        elements: *const u32, elements_len: usize,
+        surface: *const u32, surface_len: usize,
+        sizes: &[usize; 3],
+        bounds: &[f64; 6],
+        settings: &[u32; 5],
+        count: u32,
+        kinds: &[u32; 8],
+        numbers: &[f64; 32],
+        listed: u32,
         regions: *const u32, regions_len: usize,
         words: *mut u32, words_len: usize,
-        work: *mut f64, work_len: usize,
-        answer: &mut Result5,
-    );
+        floats: *mut f64, floats_len: usize,
+        result: &mut Result4,
+    ) -> u32;
     /// Intake's number.
     fn h_intake(
         parameters: *const f64, parameters_len: usize,
@@ -60,18 +90,19 @@ unsafe extern "C" {
         masks: *const u32, masks_len: usize,
         elements: *const u32, elements_len: usize,
         surface: *const u32, surface_len: usize,
-        sizes: &[u32; 3],
+        sizes: &[usize; 3],
         bounds: &[f64; 6],
-        numbers: &[u32; 7],
+        settings: &[u32; 5],
+        count: u32,
         kinds: &[u32; 8],
-        floats: &[f64; 32],
+        numbers: &[f64; 32],
         words: *mut u32, words_len: usize,
-        work: *const f64, work_len: usize,
+        floats: *const f64, floats_len: usize,
     ) -> u32;
 }
 
-fn plain_sizes(n: Sizes) -> [u32; 3] {
-    [n.vertices, n.elements, n.triples].map(|k| k as u32)
+fn plain_sizes(n: Sizes) -> [usize; 3] {
+    [n.vertices, n.elements, n.triples]
 }
 
 /// The port's intake alone.
@@ -88,9 +119,10 @@ pub fn intake(mesh: &Mesh, call: &Call, words: &mut [u32], floats: &[f64]) -> u3
             mesh.surface.as_ptr(), mesh.surface.len(),
             &plain_sizes(mesh.sizes),
             &call.bounds,
-            &plain.numbers,
+            &plain.settings,
+            call.field_count,
             &plain.kinds,
-            &plain.floats,
+            &plain.numbers,
             words.as_mut_ptr(), words.len(),
             floats.as_ptr(), floats.len(),
         )
@@ -98,38 +130,70 @@ pub fn intake(mesh: &Mesh, call: &Call, words: &mut [u32], floats: &[f64]) -> u3
 }
 
 #[rustfmt::skip]
-pub fn port(mesh: &mut Mesh, call: &Call, words: &mut [u32], floats: &mut [f64]) -> Answer {
+fn change(pass: Change, mesh: &mut Mesh, call: &Call, words: &mut [u32], floats: &mut [f64], out: &mut Result4) -> u32 {
     let plain = Plain::new(call);
-    let regions = match call.pass {
-        Pass::Smooth => call.regions.clone().unwrap_or_default(),
-        _ => Vec::new(),
-    };
-    let sizes = plain_sizes(mesh.sizes);
-    let mut out = [0; 5];
     // Each pointer is that of a live buffer of the length beside it.
     unsafe {
-        h_pass(
-            call.pass as u32,
+        pass(
             mesh.parameters.as_mut_ptr(), mesh.parameters.len(),
             mesh.points.as_mut_ptr(), mesh.points.len(),
             mesh.masks.as_mut_ptr(), mesh.masks.len(),
             mesh.elements.as_mut_ptr(), mesh.elements.len(),
             mesh.surface.as_mut_ptr(), mesh.surface.len(),
-            &sizes,
+            &plain_sizes(mesh.sizes),
             &call.bounds,
-            &plain.numbers,
+            &plain.settings,
+            call.field_count,
             &plain.kinds,
-            &plain.floats,
+            &plain.numbers,
+            words.as_mut_ptr(), words.len(),
+            floats.as_mut_ptr(), floats.len(),
+            out,
+        )
+    }
+}
+
+#[rustfmt::skip]
+fn smooth(mesh: &mut Mesh, call: &Call, words: &mut [u32], floats: &mut [f64], out: &mut Result4) -> u32 {
+    let plain = Plain::new(call);
+    let regions = call.regions.as_deref().unwrap_or(&[]);
+    // Each pointer is that of a live buffer of the length beside it.
+    unsafe {
+        halmafir_smooth(
+            mesh.parameters.as_mut_ptr(), mesh.parameters.len(),
+            mesh.points.as_mut_ptr(), mesh.points.len(),
+            mesh.masks.as_ptr(), mesh.masks.len(),
+            mesh.elements.as_ptr(), mesh.elements.len(),
+            mesh.surface.as_ptr(), mesh.surface.len(),
+            &plain_sizes(mesh.sizes),
+            &call.bounds,
+            &plain.settings,
+            call.field_count,
+            &plain.kinds,
+            &plain.numbers,
+            u32::from(call.regions.is_some()),
             regions.as_ptr(), regions.len(),
             words.as_mut_ptr(), words.len(),
             floats.as_mut_ptr(), floats.len(),
-            &mut out,
-        );
+            out,
+        )
     }
-    if out[0] != 0 {
-        return Answer::Refused(out[0]);
+}
+
+pub fn port(mesh: &mut Mesh, call: &Call, words: &mut [u32], floats: &mut [f64]) -> Answer {
+    // What stands there before a call is written over by every call.
+    let mut out = [usize::MAX; 4];
+    let number = match call.pass {
+        Pass::Improve => change(halmafir_improve, mesh, call, words, floats, &mut out),
+        Pass::Smooth => smooth(mesh, call, words, floats, &mut out),
+        // Not there yet.
+        Pass::Flip => return Answer::Refused(u32::MAX),
+    };
+    let [count, vertices, elements, triples] = out;
+    if number != 0 {
+        assert_eq!(out, [0; 4], "a refusal returns its number alone");
+        return Answer::Refused(number);
     }
-    let [count, vertices, elements, triples] = [1, 2, 3, 4].map(|k| out[k] as usize);
     mesh.sizes = Sizes { vertices, elements, triples };
     Answer::Done(count, mesh.sizes)
 }

@@ -2,7 +2,7 @@
 use mathlib.Core.Path.{_≡_, refl, sym, ap}
 use Prim.Native.Nat.{ℕ, zero, suc}
 use Rattle.geometry.specs.declared.point.Point.{Point}
-use Rattle.export.specs.Arrays.{along}
+use Rattle.export.specs.Answers.{along}
 use borrow.Author.Needs.{needs}
 use Rattle.export.proofs.along.Statement.{statement}
 use Rattle.export.proofs.along.Tie as tie

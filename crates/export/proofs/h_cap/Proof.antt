@@ -12,8 +12,8 @@ element-copy-out-t8 c = search needs
 element-copy-out-t11 : tie.Need-element-copy-out-t11
 element-copy-out-t11 c = search needs
 
-bounds-requires : tie.Need-bounds-requires
-bounds-requires c κs = search needs
+bounds-of-requires : tie.Need-bounds-of-requires
+bounds-of-requires c κs = search needs
 
 cap-requires : tie.Need-cap-requires
 cap-requires c κs = search needs
@@ -28,6 +28,6 @@ h-cap-spec =
     element-copy-out-t5
     element-copy-out-t8
     element-copy-out-t11
-    bounds-requires
+    bounds-of-requires
     cap-requires
     returns)

@@ -3,8 +3,8 @@ use borrow.Author.Needs.{needs}
 use Rattle.export.proofs.h_field_gradient.Statement.{statement}
 use Rattle.export.proofs.h_field_gradient.Tie as tie
 
-field-requires : tie.Need-field-requires
-field-requires c κs = search needs
+field-of-requires : tie.Need-field-of-requires
+field-of-requires c κs = search needs
 
 element-copy-out-t9 : tie.Need-element-copy-out-t9
 element-copy-out-t9 c = search needs
@@ -28,7 +28,7 @@ pub h-field-gradient-spec : {M : Type 1} → statement M
 h-field-gradient-spec =
     tie.close
     (tie.spec
-    field-requires
+    field-of-requires
     element-copy-out-t9
     element-copy-out-t12
     element-copy-out-t15

@@ -3,8 +3,8 @@ use borrow.Author.Needs.{needs}
 use Rattle.export.proofs.h_field_value.Statement.{statement}
 use Rattle.export.proofs.h_field_value.Tie as tie
 
-field-requires : tie.Need-field-requires
-field-requires c κs = search needs
+field-of-requires : tie.Need-field-of-requires
+field-of-requires c κs = search needs
 
 element-copy-out-t7 : tie.Need-element-copy-out-t7
 element-copy-out-t7 c = search needs
@@ -25,7 +25,7 @@ pub h-field-value-spec : {M : Type 1} → statement M
 h-field-value-spec =
     tie.close
     (tie.spec
-    field-requires
+    field-of-requires
     element-copy-out-t7
     element-copy-out-t10
     element-copy-out-t13

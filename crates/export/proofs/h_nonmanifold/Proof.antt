@@ -1,9 +1,9 @@
 -- `export::h_nonmanifold` meets its contract, by those of `copy_into` and `nonmanifold_in`. Assumes nothing.
-use mathlib.Core.Path.{_≡_, sym, ap, _∙_}
+use mathlib.Core.Path.{sym, ap, _∙_}
 use Prim.Native.Nat.{_/_}
 use lib.ListN.{length}
 use Rattle.mesh.specs.Manifold.{Tested, nonmanifoldIn}
-use Rattle.export.specs.Arrays.{asNumber}
+use Rattle.export.specs.Answers.{asNumber}
 use borrow.Author.Needs.{needs}
 use Rattle.export.proofs.h_nonmanifold.Statement.{statement}
 use Rattle.export.proofs.h_nonmanifold.Tie as tie

@@ -1,5 +1,5 @@
 -- `export::h_rank` meets its contract, by those of the functions it calls. Assumes nothing.
-use mathlib.Core.Path.{_≡_, refl, sym, ap, _∙_}
+use mathlib.Core.Path.{ap, _∙_}
 use lib.Ieee.{Float}
 use Rattle.geometry.specs.Rank.{rankValue}
 use borrow.Author.Needs.{needs}

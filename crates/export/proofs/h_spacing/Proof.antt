@@ -3,8 +3,8 @@ use borrow.Author.Needs.{needs}
 use Rattle.export.proofs.h_spacing.Statement.{statement}
 use Rattle.export.proofs.h_spacing.Tie as tie
 
-bounds-requires : tie.Need-bounds-requires
-bounds-requires c κs = search needs
+options-of-requires : tie.Need-options-of-requires
+options-of-requires c κs = search needs
 
 spacing-requires : tie.Need-spacing-requires
 spacing-requires c κs = search needs
@@ -13,4 +13,4 @@ returns : tie.Need-returns
 returns c = cc
 
 pub h-spacing-spec : {M : Type 1} → statement M
-h-spacing-spec = tie.close (tie.spec bounds-requires spacing-requires returns)
+h-spacing-spec = tie.close (tie.spec options-of-requires spacing-requires returns)

@@ -5,7 +5,8 @@ use mathlib.Core.List.{List}
 use Rattle.geometry.specs.declared.bounds.Bounds.{Bounds}
 use Rattle.geometry.specs.declared.point.Point.{Point}
 use Rattle.mesh.specs.Manifold.{Tested}
-use Rattle.export.specs.Arrays.{boundsOf, asNumber}
+use Rattle.interface.specs.Arrays.{boundsOf}
+use Rattle.export.specs.Answers.{asNumber}
 use Rattle.mesh.specs.LinkRows.{stratumOf, linkOkIn}
 use lib.ListN.{length}
 use Rattle.mesh.specs.Words.{pointsOf, copied}
@@ -24,8 +25,8 @@ mul-copy-into c = search needs
 copy-into-requires : tie.Need-copy-into-requires
 copy-into-requires c κs = search needs
 
-bounds-requires : tie.Need-bounds-requires
-bounds-requires c κs = search needs
+bounds-of-requires : tie.Need-bounds-of-requires
+bounds-of-requires c κs = search needs
 
 link-ok-in-requires : tie.Need-link-ok-in-requires
 link-ok-in-requires c κs = search needs
@@ -34,13 +35,13 @@ same-length : tie.Need-same-length
 same-length c = search needs
 
 returns : tie.Need-returns
-returns c = let a = (c .before .before .before .before .before .before .before .before .before .before .before .before .before .before .args) in let e = link-by (a .masks .now) (pointsOf (length (a .masks .now)) (a .parameters .now)) (boundsOf (a .sides .now)) (a .a) (a .b) (length (a .elements .now) / 4) (copied (a .elements .now) 0 (a .work .now) 0 (4 * (length (a .elements .now) / 4))) (c .before .before .before .link-ok-in .ensures) (c .before .before .before .before .bounds .ensures) (c .before .before .before .before .before .before .before .before .copy-into .ensures) in (ap asNumber (sym (c .if1 .taken) ∙ ap (λ (x : Tested). x .answer) e), ap (λ (x : Tested). x .area) e)
+returns c = let a = (c .before .before .before .before .before .before .before .before .before .before .before .before .before .before .args) in let e = link-by (a .masks .now) (pointsOf (length (a .masks .now)) (a .parameters .now)) (boundsOf (a .sides .now)) (a .a) (a .b) (length (a .elements .now) / 4) (copied (a .elements .now) 0 (a .work .now) 0 (4 * (length (a .elements .now) / 4))) (c .before .before .before .link-ok-in .ensures) (c .before .before .before .before .bounds-of .ensures) (c .before .before .before .before .before .before .before .before .copy-into .ensures) in (ap asNumber (sym (c .if1 .taken) ∙ ap (λ (x : Tested). x .answer) e), ap (λ (x : Tested). x .area) e)
 
 same-length-2 : tie.Need-same-length-2
 same-length-2 c = search needs
 
 returns-2 : tie.Need-returns-2
-returns-2 c = let a = (c .before .before .before .before .before .before .before .before .before .before .before .before .before .before .args) in let e = link-by (a .masks .now) (pointsOf (length (a .masks .now)) (a .parameters .now)) (boundsOf (a .sides .now)) (a .a) (a .b) (length (a .elements .now) / 4) (copied (a .elements .now) 0 (a .work .now) 0 (4 * (length (a .elements .now) / 4))) (c .before .before .before .link-ok-in .ensures) (c .before .before .before .before .bounds .ensures) (c .before .before .before .before .before .before .before .before .copy-into .ensures) in (ap asNumber (sym (c .if1 .left) ∙ ap (λ (x : Tested). x .answer) e), ap (λ (x : Tested). x .area) e)
+returns-2 c = let a = (c .before .before .before .before .before .before .before .before .before .before .before .before .before .before .args) in let e = link-by (a .masks .now) (pointsOf (length (a .masks .now)) (a .parameters .now)) (boundsOf (a .sides .now)) (a .a) (a .b) (length (a .elements .now) / 4) (copied (a .elements .now) 0 (a .work .now) 0 (4 * (length (a .elements .now) / 4))) (c .before .before .before .link-ok-in .ensures) (c .before .before .before .before .bounds-of .ensures) (c .before .before .before .before .before .before .before .before .copy-into .ensures) in (ap asNumber (sym (c .if1 .left) ∙ ap (λ (x : Tested). x .answer) e), ap (λ (x : Tested). x .area) e)
 
 pub h-link-spec : {M : Type 1} → statement M
 h-link-spec =
@@ -48,7 +49,7 @@ h-link-spec =
     (tie.spec
     mul-copy-into
     copy-into-requires
-    bounds-requires
+    bounds-of-requires
     link-ok-in-requires
     same-length
     returns

@@ -1,6 +1,6 @@
 -- `export::passes::h_project` meets its contract, by those of `project_candidate` and `put_point`. Assumes nothing.
 use mathlib.Core.Path.{_≡_, sym, ap, _∙_}
-use Rattle.export.specs.Passes.{fieldsOf, pointOver}
+use Rattle.export.specs.Answers.{pointOver}
 use Prim.Native.Nat.{ℕ}
 use mathlib.Core.List.{List}
 use lib.ListN.{take}
@@ -9,7 +9,7 @@ use Rattle.geometry.specs.declared.point.Point.{Point}
 use Rattle.geometry.specs.declared.field.Field.{Field}
 use Rattle.repair.specs.declared.project.Projected.{Projected}
 use Rattle.repair.specs.Project.{project}
-use Rattle.export.specs.Arrays.{pointOf, boundsOf}
+use Rattle.interface.specs.Arrays.{pointOf, boundsOf, fieldsOf}
 use borrow.Author.Needs.{needs}
 use Rattle.export.proofs.passes.h_project.Statement.{statement}
 use Rattle.export.proofs.passes.h_project.Tie as tie
@@ -19,14 +19,14 @@ project-by : (b : Bounds) (o : Point) (n : ℕ) (fs : List Field) (p : Point) {x
     → x ≡ project c q (take n gs) r → c ≡ b → q ≡ o → gs ≡ fs → r ≡ p → x ≡ project b o (take n fs) p
 project-by b o n fs p e h i j k = rw (sym h, sym i, sym j, sym k) e
 
-bounds-requires : tie.Need-bounds-requires
-bounds-requires c κs = search needs
+bounds-of-requires : tie.Need-bounds-of-requires
+bounds-of-requires c κs = search needs
 
 first-requires : tie.Need-first-requires
 first-requires c κs = search needs
 
-fields-requires : tie.Need-fields-requires
-fields-requires c κs = search needs
+fields-of-requires : tie.Need-fields-of-requires
+fields-of-requires c κs = search needs
 
 first-requires-2 : tie.Need-first-requires-2
 first-requires-2 c κs = search needs
@@ -38,15 +38,15 @@ put-point-requires : tie.Need-put-point-requires
 put-point-requires c κs = search needs
 
 returns : tie.Need-returns
-returns c = let a = (c .before .before .before .before .before .before .before .args) in c .put-point .ensures ∙ ap (pointOver (a .point .now)) (project-by (boundsOf (a .b .now)) (pointOf (a .origin .now) 0) (a .count) (fieldsOf (a .kinds .now) (a .floats .now)) (pointOf (a .candidate .now) 0) (c .before .before .project-candidate .ensures) (c .before .before .before .before .before .before .bounds .ensures) (c .before .before .before .before .before .first .ensures) (c .before .before .before .before .fields .ensures) (c .before .before .before .first2 .ensures))
+returns c = let a = (c .before .before .before .before .before .before .before .args) in c .put-point .ensures ∙ ap (pointOver (a .point .now)) (project-by (boundsOf (a .b .now)) (pointOf (a .origin .now) 0) (a .count) (fieldsOf (a .kinds .now) (a .floats .now)) (pointOf (a .candidate .now) 0) (c .before .before .project-candidate .ensures) (c .before .before .before .before .before .before .bounds-of .ensures) (c .before .before .before .before .before .first .ensures) (c .before .before .before .before .fields-of .ensures) (c .before .before .before .first2 .ensures))
 
 pub h-project-spec : {M : Type 1} → statement M
 h-project-spec =
     tie.close
     (tie.spec
-    bounds-requires
+    bounds-of-requires
     first-requires
-    fields-requires
+    fields-of-requires
     first-requires-2
     project-candidate-requires
     put-point-requires

@@ -1,0 +1,3 @@
+-- Laws by subject.
+pub mod Called
+pub mod Unknown

@@ -1,0 +1,2 @@
+-- Laws of the interface's definitions.
+pub mod Laws

@@ -1,0 +1,56 @@
+-- `interface::passes::halmafir_smooth` meets its contract, by those of `smooth` and `put_answer`. Assumes nothing.
+use lib.ListN.{length}
+use lib.Dec.{eqb}
+use mathlib.Core.Bool.{not}
+use Rattle.repair.specs.Step.{Pass}
+use Rattle.repair.specs.Regions.{regionsOf}
+use Rattle.interface.specs.Arrays.{fieldsOf, optionsOf, sizesOf}
+use Rattle.interface.proofs.Laws.Called.{called-by}
+use borrow.Author.Needs.{needs}
+use Rattle.interface.proofs.passes.halmafir_smooth.Statement.{statement}
+use Rattle.interface.proofs.passes.halmafir_smooth.Tie as tie
+
+options-of-requires : tie.Need-options-of-requires
+options-of-requires c κs = search needs
+
+fields-of-requires : tie.Need-fields-of-requires
+fields-of-requires c κs = search needs
+
+sizes-of-requires : tie.Need-sizes-of-requires
+sizes-of-requires c κs = search needs
+
+smooth-requires : tie.Need-smooth-requires
+smooth-requires c κs = search needs
+
+put-answer-requires : tie.Need-put-answer-requires
+put-answer-requires c κs = search needs
+
+same-length : tie.Need-same-length
+same-length c = search needs
+
+same-length-2 : tie.Need-same-length-2
+same-length-2 c = search needs
+
+same-length-3 : tie.Need-same-length-3
+same-length-3 c = search needs
+
+same-length-4 : tie.Need-same-length-4
+same-length-4 c = search needs
+
+returns : tie.Need-returns
+returns c = let a = (c .before .before .before .before .before .before .before .before .before .before .before .before .before .before .before .before .before .before .before .before .before .before .before .before .before .before .args) in called-by Pass.smooth (optionsOf (a .sides .now) (a .settings .now)) (fieldsOf (a .kinds .now) (a .numbers .now)) (a .count) (regionsOf (not (eqb (a .listed) 0)) (a .regions .now)) (length (a .words .now)) (length (a .floats .now)) (a .parameters .now) (a .points .now) (a .masks .now) (a .elements .now) (a .surface .now) (sizesOf (a .sizes .now)) (c .before .before .before .before .before .before .before .before .before .before .before .before .before .before .before .before .before .options-of .ensures) (c .before .before .before .before .before .before .before .before .before .before .before .before .before .before .before .before .fields-of .ensures) (c .before .before .before .before .before .before .before .before .before .before .before .before .before .before .before .sizes-of .ensures) (c .before .before .before .before .before .before .before .before .before .before .smooth .ensures .0) (c .before .before .before .before .before .before .before .before .before .before .smooth .ensures .1 .0) (c .before .before .before .before .before .before .before .before .before .before .smooth .ensures .1 .1) (c .put-answer .ensures)
+
+pub halmafir-smooth-spec : {M : Type 1} → statement M
+halmafir-smooth-spec =
+    tie.close
+    (tie.spec
+    options-of-requires
+    fields-of-requires
+    sizes-of-requires
+    smooth-requires
+    put-answer-requires
+    same-length
+    same-length-2
+    same-length-3
+    same-length-4
+    returns)

@@ -1,0 +1,126 @@
+// The passes on a mesh in its buffers. `sizes` are its vertices, elements and surface triples; `sides` is the box, lo and hi per
+// direction; `settings` are three cells, periodic bits and passes; `count` says how many of the eight fields there are, each a kind and
+// four numbers. The number returned is 0, with the count and the new sizes in `result`, or one of document 01's table, with zeros there.
+// Both work slices may hold anything before, and are all zeros afterwards.
+use crate::arrays::fields_of;
+use crate::arrays::options_of;
+use crate::arrays::sizes_of;
+use repair::answer::Answer;
+use repair::improve::improve;
+use repair::smooth::smooth;
+ghost use mathlib.Core.Path.{_≡_};
+ghost use mathlib.Core.List.{List};
+ghost use mathlib.Core.Bool.{not};
+ghost use mathlib.Core.Option.{none};
+ghost use Prim.Native.Nat.{ℕ};
+ghost use lib.Dec.{eqb};
+ghost use lib.ListN.{length};
+ghost use Rattle.repair.specs.Step.{Pass, numberOf};
+ghost use Rattle.repair.specs.Regions.{regionsOf};
+ghost use Rattle.interface.specs.Arrays.{fieldsOf, optionsOf, sizesOf};
+ghost use Rattle.interface.specs.Called.{Returned, called, resultOf};
+
+// Puts the result's four places and gives the number.
+fn put_answer(to: &mut [usize; 4], given: Answer) -> u32
+    ensures { λ r. ⌜ _≡_ {A = ℕ × List ℕ} (r, now (to .exit)) (numberOf given, resultOf given) ⌝ }
+{
+    match given {
+        Answer::Done { count, sizes } => {
+            *to = [count, sizes.vertices, sizes.elements, sizes.triples];
+            0
+        }
+        Answer::Refused(number) => {
+            *to = [0, 0, 0, 0];
+            number
+        }
+    }
+}
+
+// `improve`: collapses short edges of badly shaped elements. The count is that of the vertices replaced.
+#[no_mangle]
+pub extern "C" fn halmafir_improve(
+    parameters: &mut [f64],
+    points: &mut [f64],
+    masks: &mut [u32],
+    elements: &mut [u32],
+    surface: &mut [u32],
+    sizes: &[usize; 3],
+    sides: &[f64; 6],
+    settings: &[u32; 5],
+    count: u32,
+    kinds: &[u32; 8],
+    numbers: &[f64; 32],
+    words: &mut [u32],
+    floats: &mut [f64],
+    result: &mut [usize; 4],
+) -> u32
+    ensures { λ r. ⌜ _≡_ {A = Returned}
+        (record { number = r; result = now (result .exit); parameters = now (parameters .exit); points = now (points .exit); masks = now (masks .exit); elements = now (elements .exit); surface = now (surface .exit); words = now (words .exit); floats = now (floats .exit) })
+        (called (record { pass = Pass.improve; options = optionsOf (now (sides .entry)) (now (settings .entry)); fields = fieldsOf (now (kinds .entry)) (now (numbers .entry)); count = count; regions = none; words = length (now (words .entry)); floats = length (now (floats .entry)) })
+        (record { parameters = now (parameters .entry); points = now (points .entry); masks = now (masks .entry); elements = now (elements .entry); surface = now (surface .entry); sizes = sizesOf (now (sizes .entry)) })) ⌝ }
+{
+    let o = options_of(sides, settings);
+    let f = fields_of(kinds, numbers);
+    let z = sizes_of(sizes);
+    let given = improve(
+        z,
+        o,
+        count,
+        f,
+        parameters,
+        points,
+        masks,
+        elements,
+        surface,
+        words,
+        floats,
+    );
+    put_answer(result, given)
+}
+
+// `smooth`: moves vertices of badly shaped elements. The count is that of the vertices moved. `listed` is 0 where there is no list of
+// regions, which is not the same as an empty list, and any other number where `regions` is the list.
+#[no_mangle]
+pub extern "C" fn halmafir_smooth(
+    parameters: &mut [f64],
+    points: &mut [f64],
+    masks: &[u32],
+    elements: &[u32],
+    surface: &[u32],
+    sizes: &[usize; 3],
+    sides: &[f64; 6],
+    settings: &[u32; 5],
+    count: u32,
+    kinds: &[u32; 8],
+    numbers: &[f64; 32],
+    listed: u32,
+    regions: &[u32],
+    words: &mut [u32],
+    floats: &mut [f64],
+    result: &mut [usize; 4],
+) -> u32
+    ensures { λ r. ⌜ _≡_ {A = Returned}
+        (record { number = r; result = now (result .exit); parameters = now (parameters .exit); points = now (points .exit); masks = now (masks .entry); elements = now (elements .entry); surface = now (surface .entry); words = now (words .exit); floats = now (floats .exit) })
+        (called (record { pass = Pass.smooth; options = optionsOf (now (sides .entry)) (now (settings .entry)); fields = fieldsOf (now (kinds .entry)) (now (numbers .entry)); count = count; regions = regionsOf (not (eqb listed 0)) (now (regions .entry)); words = length (now (words .entry)); floats = length (now (floats .entry)) })
+        (record { parameters = now (parameters .entry); points = now (points .entry); masks = now (masks .entry); elements = now (elements .entry); surface = now (surface .entry); sizes = sizesOf (now (sizes .entry)) })) ⌝ }
+{
+    let o = options_of(sides, settings);
+    let f = fields_of(kinds, numbers);
+    let z = sizes_of(sizes);
+    let given = smooth(
+        z,
+        o,
+        count,
+        f,
+        listed != 0,
+        regions,
+        parameters,
+        points,
+        masks,
+        elements,
+        surface,
+        words,
+        floats,
+    );
+    put_answer(result, given)
+}
