@@ -24,8 +24,9 @@
      14  two elements with the same four vertices
      15  a determinant not above 0
      16  a face three times or more   } whichever bad face has the lower key gives the number; at the start of each pass,
-     17  a shared face turned wrong   } and at the end of improve
+     17  a shared face turned wrong   } and at the end of improve and flip
      22  end of improve: a nonmanifold boundary vertex
+     23  end of flip: the sorted surface triples differ from those given
 
    A refusal returns its number alone: the mesh buffers hold what they held, in every place. */
 #ifndef HALMAFIR_H
@@ -121,6 +122,24 @@ uint32_t halmafir_smooth(
     double *floats, size_t floats_len,
     size_t result[4]);
 
+/* Reconnects badly shaped elements and writes the boundary to the surface buffer. The count is that of the flips made. Parameters, points
+   and masks stay as they are. */
+uint32_t halmafir_flip(
+    double *parameters, size_t parameters_len,
+    double *points, size_t points_len,
+    uint32_t *masks, size_t masks_len,
+    uint32_t *elements, size_t elements_len,
+    uint32_t *surface, size_t surface_len,
+    const size_t sizes[3],
+    const double bounds[6],
+    const uint32_t settings[5],
+    uint32_t field_count,
+    const uint32_t kinds[8],
+    const double numbers[32],
+    uint32_t *words, size_t words_len,
+    double *floats, size_t floats_len,
+    size_t result[4]);
+
 /* ---- The boundary
 
    The sorted boundary triples of the first element_count elements, four vertex numbers each. With 0 returned they stand at the front of
@@ -134,6 +153,18 @@ uint32_t halmafir_boundary(
     uint32_t *surface, size_t surface_len,
     uint32_t *words, size_t words_len,
     size_t *triples);
+
+/* ---- Block files
+
+   What the program plot prints for the bytes of a block file: the table, or a line "refused N". The text is written to the front of out,
+   without a zero behind it, and its length is returned, at most HALMAFIR_TEXT; bytes past the end of out are passed over, and each place
+   past the text keeps what it held. Beside the numbers above N can be
+      1  the file ends before its last block is whole, or bytes follow that block
+      2  a block's words do not add to 0
+      3  a block's kind, number or count is not the expected one
+   and 10 stands for over 24 vertices or 24 elements. No byte past the first 2,561 can change the text. */
+#define HALMAFIR_TEXT 50000
+size_t halmafir_report(const uint8_t *input, size_t input_len, uint8_t *out, size_t out_len);
 
 #ifdef __cplusplus
 }

@@ -1,5 +1,6 @@
 //! Halmafir repairs meshes of tetrahedra: [`improve`] collapses short edges of badly shaped
-//! elements, [`smooth`] moves vertices, and [`boundary`] gives a mesh's surface. The functions that
+//! elements, [`smooth`] moves vertices, [`flip`] reconnects elements, [`boundary`] gives a mesh's
+//! surface, and [`report`] is what the program `plot` prints for a block file. The functions that
 //! this crate calls are proved: for every input each gives exactly what its definition gives, or
 //! one number of a table, and a refused mesh is left as it was. No call panics, whatever the
 //! numbers are, short of memory.
@@ -249,6 +250,12 @@ pub fn smooth(mesh: &mut Mesh, options: &Options, regions: Option<&[u32]>) -> Ou
     })
 }
 
+/// Reconnects badly shaped elements and sets the surface to the boundary. Gives the number of flips
+/// made.
+pub fn flip(mesh: &mut Mesh, options: &Options) -> Outcome {
+    change(plain::halmafir_flip, mesh, options)
+}
+
 /// The sorted boundary triples of elements, or 10, 16 or 17.
 #[rustfmt::skip]
 pub fn boundary(elements: &[[u32; 4]]) -> Result<Vec<[u32; 3]>, Refusal> {
@@ -271,4 +278,15 @@ pub fn boundary(elements: &[[u32; 4]]) -> Result<Vec<[u32; 3]>, Refusal> {
     };
     surface.truncate(triples);
     if number == 0 { Ok(surface) } else { Err(Refusal(number)) }
+}
+
+/// What the program `plot` prints for the bytes of a block file: the table, or a line `refused N`.
+pub fn report(file: &[u8]) -> String {
+    let mut out = vec![0; 50_000];
+    // SAFETY: both pointers are those of live slices of the lengths beside them, which do not overlap.
+    let length = unsafe {
+        plain::halmafir_report(file.as_ptr(), file.len(), out.as_mut_ptr(), out.len())
+    };
+    out.truncate(length);
+    String::from_utf8_lossy(&out).into_owned()
 }

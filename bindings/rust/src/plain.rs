@@ -38,6 +38,23 @@ unsafe extern "C" {
         result: &mut [usize; 4],
     ) -> u32;
 
+    pub fn halmafir_flip(
+        parameters: *mut f64, parameters_len: usize,
+        points: *mut f64, points_len: usize,
+        masks: *mut u32, masks_len: usize,
+        elements: *mut u32, elements_len: usize,
+        surface: *mut u32, surface_len: usize,
+        sizes: &[usize; 3],
+        bounds: &[f64; 6],
+        settings: &[u32; 5],
+        field_count: u32,
+        kinds: &[u32; 8],
+        numbers: &[f64; 32],
+        words: *mut u32, words_len: usize,
+        floats: *mut f64, floats_len: usize,
+        result: &mut [usize; 4],
+    ) -> u32;
+
     pub fn halmafir_smooth(
         parameters: *mut f64, parameters_len: usize,
         points: *mut f64, points_len: usize,
@@ -64,4 +81,9 @@ unsafe extern "C" {
         words: *mut u32, words_len: usize,
         triples: &mut usize,
     ) -> u32;
+
+    pub fn halmafir_report(
+        input: *const u8, input_len: usize,
+        out: *mut u8, out_len: usize,
+    ) -> usize;
 }

@@ -18,6 +18,7 @@ impl Refusal {
             16 => "a face three times or more",
             17 => "a shared face with equal parities",
             22 => "a nonmanifold boundary vertex",
+            23 => "sorted surface triples differ from those given",
             _ => "a number that the table does not have",
         }
     }

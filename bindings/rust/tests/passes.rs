@@ -1,5 +1,5 @@
 //! Document 01's blocks through the safe functions, linked with the built archive.
-use halmafir::{ELEMENTS, Field, Mesh, Options, Refusal, boundary, improve, smooth};
+use halmafir::{ELEMENTS, Field, Mesh, Options, Refusal, boundary, flip, improve, report, smooth};
 
 const M4: [[f64; 3]; 4] = [[0., 0., 0.], [1., 0., 0.], [0., 1., 0.], [0., 0., 1.]];
 
@@ -22,12 +22,14 @@ fn cube(lo: f64, hi: f64, cells: u32) -> Options {
     Options { lo: [lo; 3], hi: [hi; 3], cells: [cells; 3], periodic: 0, passes: 1, fields }
 }
 
-/// Both passes refuse the mesh with the number and leave it as it was.
+/// Each pass refuses the mesh with the number and leave it as it was.
 fn refused(number: u32, mesh: &Mesh, options: &Options) {
     let mut got = mesh.clone();
     assert_eq!(improve(&mut got, options), Err(Refusal(number)));
     same(&got, mesh);
     assert_eq!(smooth(&mut got, options, None), Err(Refusal(number)));
+    same(&got, mesh);
+    assert_eq!(flip(&mut got, options), Err(Refusal(number)));
     same(&got, mesh);
 }
 
@@ -178,4 +180,41 @@ fn eight_fields_pass_and_nine_give_11() {
 #[test]
 fn a_refusal_says_its_row() {
     assert_eq!(Refusal(15).to_string(), "refused 15: a determinant not above 0");
+}
+
+/// Two flat elements on the face 0 1 2, whose apexes are close to its middle.
+fn two_on_a_face() -> Mesh {
+    let points = [[0., 0., 0.], [4., 0., 0.], [0., 4., 0.], [1., 1., 0.25], [1., 1., -0.25]];
+    mesh(&points, &[[0, 1, 2, 3], [0, 2, 1, 4]])
+}
+
+#[test]
+fn flip_makes_three_of_two() {
+    let mut mesh = two_on_a_face();
+    assert_eq!(flip(&mut mesh, &cube(-8., 8., 1)), Ok(1));
+    assert_eq!(mesh.elements.len(), 3);
+    assert!(mesh.elements.iter().all(|t| t.contains(&3) && t.contains(&4)));
+    assert_eq!(mesh.surface, boundary(&mesh.elements).unwrap());
+    assert_eq!(flip(&mut mesh, &cube(-8., 8., 1)), Ok(0));
+}
+
+#[test]
+fn flip_refuses_another_surface() {
+    let mut mesh = two_on_a_face();
+    mesh.surface[0] = [0, 1, 2];
+    let before = mesh.clone();
+    assert_eq!(flip(&mut mesh, &cube(-8., 8., 1)), Err(Refusal(23)));
+    same(&mesh, &before);
+}
+
+#[test]
+fn report_prints_the_sample() {
+    let root = concat!(env!("CARGO_MANIFEST_DIR"), "/../..");
+    for name in ["m4", "plot"] {
+        let file = std::fs::read(format!("{root}/samples/{name}.blocks")).unwrap();
+        let table = std::fs::read_to_string(format!("{root}/samples/{name}.table")).unwrap();
+        assert_eq!(report(&file), table);
+        assert_eq!(report(&file[1..]), "refused 1\n");
+    }
+    assert_eq!(report(b""), "refused 1\n");
 }

@@ -6,6 +6,7 @@ use crate::arrays::fields_of;
 use crate::arrays::options_of;
 use crate::arrays::sizes_of;
 use repair::answer::Answer;
+use repair::flip::flip;
 use repair::improve::improve;
 use repair::smooth::smooth;
 ghost use mathlib.Core.Path.{_≡_};
@@ -114,6 +115,48 @@ pub extern "C" fn halmafir_smooth(
         f,
         listed != 0,
         regions,
+        parameters,
+        points,
+        masks,
+        elements,
+        surface,
+        words,
+        floats,
+    );
+    put_answer(result, given)
+}
+
+// `flip`: reconnects badly shaped elements. The count is that of the flips made.
+#[no_mangle]
+pub extern "C" fn halmafir_flip(
+    parameters: &mut [f64],
+    points: &mut [f64],
+    masks: &mut [u32],
+    elements: &mut [u32],
+    surface: &mut [u32],
+    sizes: &[usize; 3],
+    sides: &[f64; 6],
+    settings: &[u32; 5],
+    count: u32,
+    kinds: &[u32; 8],
+    numbers: &[f64; 32],
+    words: &mut [u32],
+    floats: &mut [f64],
+    result: &mut [usize; 4],
+) -> u32
+    ensures { λ r. ⌜ _≡_ {A = Returned}
+        (record { number = r; result = now (result .exit); parameters = now (parameters .exit); points = now (points .exit); masks = now (masks .exit); elements = now (elements .exit); surface = now (surface .exit); words = now (words .exit); floats = now (floats .exit) })
+        (called (record { pass = Pass.flip; options = optionsOf (now (sides .entry)) (now (settings .entry)); fields = fieldsOf (now (kinds .entry)) (now (numbers .entry)); count = count; regions = none; words = length (now (words .entry)); floats = length (now (floats .entry)) })
+        (record { parameters = now (parameters .entry); points = now (points .entry); masks = now (masks .entry); elements = now (elements .entry); surface = now (surface .entry); sizes = sizesOf (now (sizes .entry)) })) ⌝ }
+{
+    let o = options_of(sides, settings);
+    let f = fields_of(kinds, numbers);
+    let z = sizes_of(sizes);
+    let given = flip(
+        z,
+        o,
+        count,
+        f,
         parameters,
         points,
         masks,

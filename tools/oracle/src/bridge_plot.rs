@@ -1,14 +1,14 @@
-//! The port's report function from the export crate's static library.
+//! The port's report function from the interface crate's static library.
 
 unsafe extern "C" {
     /// Writes the text for the input to the front of `out`, and gives its length.
-    fn h_report(input: *const u8, input_len: usize, out: *mut u8, out_len: usize) -> usize;
+    fn halmafir_report(input: *const u8, input_len: usize, out: *mut u8, out_len: usize) -> usize;
 }
 
 pub fn port(file: &[u8]) -> Vec<u8> {
     let mut out = vec![0xAA; 4096];
     // Both pointers are those of live buffers of the lengths beside them.
-    let length = unsafe { h_report(file.as_ptr(), file.len(), out.as_mut_ptr(), out.len()) };
+    let length = unsafe { halmafir_report(file.as_ptr(), file.len(), out.as_mut_ptr(), out.len()) };
     out.truncate(length);
     out
 }

@@ -65,6 +65,22 @@ unsafe extern "C" {
         floats: *mut f64, floats_len: usize,
         result: &mut Result4,
     ) -> u32;
+    fn halmafir_flip(
+        parameters: *mut f64, parameters_len: usize,
+        points: *mut f64, points_len: usize,
+        masks: *mut u32, masks_len: usize,
+        elements: *mut u32, elements_len: usize,
+        surface: *mut u32, surface_len: usize,
+        sizes: &[usize; 3],
+        bounds: &[f64; 6],
+        settings: &[u32; 5],
+        count: u32,
+        kinds: &[u32; 8],
+        numbers: &[f64; 32],
+        words: *mut u32, words_len: usize,
+        floats: *mut f64, floats_len: usize,
+        result: &mut Result4,
+    ) -> u32;
     fn halmafir_smooth(
         parameters: *mut f64, parameters_len: usize,
         points: *mut f64, points_len: usize,
@@ -186,8 +202,7 @@ pub fn port(mesh: &mut Mesh, call: &Call, words: &mut [u32], floats: &mut [f64])
     let number = match call.pass {
         Pass::Improve => change(halmafir_improve, mesh, call, words, floats, &mut out),
         Pass::Smooth => smooth(mesh, call, words, floats, &mut out),
-        // Not there yet.
-        Pass::Flip => return Answer::Refused(u32::MAX),
+        Pass::Flip => change(halmafir_flip, mesh, call, words, floats, &mut out),
     };
     let [count, vertices, elements, triples] = out;
     if number != 0 {
