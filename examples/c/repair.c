@@ -3,7 +3,7 @@
      cc -O2 -Wall -Iinclude examples/c/repair.c target/staticlib/libinterface.a -o target/repair && target/repair
 
    Elements 0 and 1 share a face; vertex 4 lies so close to vertex 0 that element 1 is thin. `improve` collapses that edge. Element 2 is
-   flat; `smooth` moves its free vertices. */
+   flat; `smooth` moves its free vertices. `flip` finds no face or edge to reconnect. */
 #include "halmafir.h"
 
 #include <stdio.h>
@@ -61,6 +61,11 @@ int main(void) {
         parameters, LENGTH(parameters), points, LENGTH(points), masks, LENGTH(masks), elements, LENGTH(elements), surface,
         LENGTH(surface), sizes, bounds, settings, 1, kinds, numbers, 0, masks, 0, words, LENGTH(words), floats, LENGTH(floats), result);
     if (!done("smooth", number, result)) return 1;
+
+    number = halmafir_flip(
+        parameters, LENGTH(parameters), points, LENGTH(points), masks, LENGTH(masks), elements, LENGTH(elements), surface,
+        LENGTH(surface), sizes, bounds, settings, 1, kinds, numbers, words, LENGTH(words), floats, LENGTH(floats), result);
+    if (!done("flip", number, result)) return 1;
 
     for (size_t e = 0; e < sizes[1]; e++)
         printf("element %u %u %u %u\n", elements[4 * e], elements[4 * e + 1], elements[4 * e + 2], elements[4 * e + 3]);

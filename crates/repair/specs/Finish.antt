@@ -32,7 +32,7 @@ improveEnd count ts s =
     let n = renumbered (meshOf s) ts in
     finish s (cond (eqb (endNumber n) 0) (made count n) (refused (endNumber n)))
 
--- the sizes that the mesh has after an answer
+-- the sizes that the mesh has after an answer; also for the contracts of `improve` and `flip`
 abbrev pub sizesAfter : Answer → Sizes → Sizes
 sizesAfter (answers.Done count sizes) z = sizes
 sizesAfter (answers.Refused number) z = z

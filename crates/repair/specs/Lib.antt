@@ -1,5 +1,6 @@
 -- The definitions of the passes, a file for each subject; those from Solve on serve the contracts of private functions: those of
--- projection, of `smooth`, of `improve`, and from Trio on of `flip`.
+-- projection, of `smooth`, of `improve`, and from Trio on of `flip`. Two of them stand in the contracts of the passes too: `regionsOf`
+-- (Regions) in that of `smooth`, `sizesAfter` (Finish) in those of `improve` and `flip`.
 pub mod Mesh
 pub mod Project
 pub mod Improve

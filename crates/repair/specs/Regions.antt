@@ -17,7 +17,7 @@ use Rattle.geometry.specs.Bounds.{spacing}
 use Rattle.mesh.specs.Intake.{inBox}
 use Rattle.repair.specs.Smooth.{outsideAll, along, stepCandidates}
 
--- "an absent list and an empty list are different": none where no list is given
+-- "an absent list and an empty list are different": none where no list is given; also for the contract of `smooth`
 abbrev pub regionsOf : Bool → List ℕ → Option (List ℕ)
 regionsOf false regions = none
 regionsOf true regions = some regions
