@@ -3,7 +3,8 @@
 
 Run in the repository's folder:  python3 tools/trial/expected.py > crates/trial/stdout
 The cases are the constants of crates/trial/src; nothing else of the crates is read.
-With the word `cases` it prints the calls of `smooth` that move vertices, with what it works out, in the form that `oracle verify` reads.
+With the word `cases` it prints the calls of `smooth` that move vertices and those of `flip` on meshes of its own, with what it works out, in the form that
+`oracle verify` reads.
 """
 import itertools
 import math
@@ -184,11 +185,17 @@ def intake_number(sizes, lengths, passes, coordinate, tets):
     return boundary_number(tets)
 
 
-def boundary_number(tets):
+def faces_of(tets):
+    """The faces with each key."""
     faces = {}
     for a, b, c, d in tets:
         for f in [(a, b, d), (a, c, b), (a, d, c), (b, c, d)]:
             faces.setdefault(tuple(sorted(f)), []).append(f)
+    return faces
+
+
+def boundary_number(tets):
+    faces = faces_of(tets)
     for key in sorted(faces):
         if len(faces[key]) > 2:
             return 16
@@ -383,8 +390,84 @@ def smoothed(points, tets, masks=None, fields=(), regions=None):
     return [0, moved, len(points), len(tets), len(surface_of(tets))], points
 
 
-for mesh, way, passes in [(0, 0, 1), (0, 1, 1), (1, 0, 1), (1, 1, 1), (2, 0, 1), (3, 0, 1), (3, 0, 17), (3, 1, 17)]:
-    answer = [11] if passes > 16 else smoothed(*MESHES[mesh])[0] if way else improved(*MESHES[mesh])
+def replacement(points, old, new):
+    """The new elements, each turned so that its determinant is above 0, or None where they may not replace the old ones.
+
+    Document 01 asks for a lowest score that is not below; how much above it has to be, and the test of volumes, docs/DECISIONS.md says.
+    """
+    made, volume, old_volume = [], 0.0, 0.0
+    for t in old:
+        old_volume += determinant([points[v] for v in t])
+    for a, b, c, d in new:
+        det = determinant([points[v] for v in (a, b, c, d)])
+        if det == 0:
+            return None
+        made.append((a, b, d, c) if det < 0 else (a, b, c, d))
+        volume += abs(det)
+    before, after = ([score([points[v] for v in t]) for t in part] for part in (old, made))
+    if not min([1.0] + after) > min([1.0] + before) + 1e-10:
+        return None
+    if sum(s < 0.1 for s in after) > sum(s < 0.1 for s in before):
+        return None
+    return made if abs(volume - old_volume) <= old_volume * 1e-10 else None
+
+
+def flipped(points, tets, given):
+    """`flip` with a given surface: its answer's numbers, the elements and the surface.
+
+    Document 01 leaves free in which order the new elements stand, and their vertices: here as in the Rust. So is the test that no live element has the
+    face that a three-to-two makes (docs/DECISIONS.md).
+    """
+    points = [[float(x) for x in p] for p in points]
+    live = dict(enumerate(tets))  # by number, in the order of making
+    bad = [t for t in tets if score([points[v] for v in t]) < 0.1]
+    flips = 0
+
+    def having(vertices):
+        return [i for i in live if set(vertices) <= set(live[i])]
+
+    def change(numbers, new):
+        made = replacement(points, [live[i] for i in numbers], new)
+        if made is None:
+            return 0
+        first = max(live) + 1
+        for i in numbers:
+            del live[i]
+        live.update(enumerate(made, first))
+        return 1
+
+    for u, v, w in sorted({tuple(sorted(f)) for t in bad for f in itertools.combinations(t, 3)}):
+        pair = [i for i, t in enumerate(tets) if {u, v, w} <= set(t)]
+        if len(pair) == 2 and all(i in live for i in pair):
+            a, b = (next(x for x in tets[i] if x not in (u, v, w)) for i in pair)
+            if not having([a, b]):
+                flips += change(pair, [(a, b, u, v), (a, b, v, w), (a, b, w, u)])
+    for a, b in sorted({tuple(sorted(e)) for t in bad for e in itertools.combinations(t, 2)}):
+        about = having([a, b])
+        others = sorted({x for i in about for x in live[i]} - {a, b})
+        if len(about) == 3 and len(others) == 3 and not having(others):
+            flips += change(about, [(*others, a), (*others, b)])
+    left = list(live.values())
+    if boundary_number(left):
+        return [boundary_number(left)], tets, given
+    if sorted(surface_of(left)) != sorted(tuple(sorted(f)) for f in given):
+        return [23], tets, given
+    surface = sorted(same[0] for same in faces_of(left).values() if len(same) == 1)
+    return [0, flips, len(points), len(left), len(surface)], left, surface
+
+
+def passed(points, tets, way):
+    """The answer of a pass, where each number of the surface given is 5."""
+    if way == 2:
+        return flipped(points, tets, [(5, 5, 5)] * len(surface_of(tets)))[0]
+    return smoothed(points, tets)[0] if way else improved(points, tets)
+
+
+for mesh, way, passes in (
+    [(0, 0, 1), (0, 1, 1), (0, 2, 1), (1, 0, 1), (1, 1, 1), (1, 2, 1), (2, 0, 1), (3, 0, 1)]
+    + [(3, 0, 17), (3, 1, 17), (3, 2, 17)]
+):
+    answer = [11] if passes > 16 else passed(*MESHES[mesh], way)
     show("pass", mesh, way, passes, *answer, 1, 1, 1)
 
 
@@ -401,22 +484,31 @@ def move(fields, regions):
     return answer, [x for p in points for x in p] + [9.0] * 3
 
 
-def case(name, fields, regions):
-    """A call with its answer, as tools/oracle reads it."""
-    before = [float(x) for p in CORNER for x in p] + [9.0] * 3
-    answer, after = move(fields, regions)
-    words = [v for t in QUARTERS for v in t] + [7] * 18
+def listed(name, items, form=str):
+    return " ".join([name, str(len(items)), *map(form, items)])
+
+
+def buffers(parameters, points, masks, elements, surface):
+    """The five buffers, as tools/oracle reads them."""
+    return [
+        listed("parameters", parameters, hexed),
+        listed("points", points, hexed),
+        listed("masks", masks, lambda m: f"{m:08x}"),
+        listed("elements", elements),
+        listed("surface", surface),
+    ]
+
+
+def case(name, sizes, before, way, fields, regions, work, answer, after):
+    """A call with its answer, as tools/oracle reads it: the buffers before it, and the places of each that it wrote."""
     return "\n".join(
-        [f"case {name}", "sizes 5 4 4", f"parameters 18 {hexed(*before)}", f"points 18 {hexed(*before)}"]
-        + ["masks 5 " + " ".join(f"{m:08x}" for m in CORNER_MASKS)]
-        + ["elements 34 " + " ".join(map(str, words)), "surface 50 " + " ".join(["5"] * 50)]
-        + ["calls 1", "call 1", "box " + hexed(*[-100.0, 100.0] * 3), "cells 200 200 200 periodic 0 passes 1"]
+        [f"case {name}", " ".join(map(str, ("sizes", *sizes))), *buffers(*before)]
+        + ["calls 1", f"call {way}", "box " + hexed(*[-100.0, 100.0] * 3), "cells 200 200 200 periodic 0 passes 1"]
         + [f"fields {len(fields)}"]
         + [f"{kind} {hexed(*numbers)}" for kind, numbers in fields]
-        + ["regions 0" if regions is None else f"regions 1 {len(regions)} " + " ".join(f"{m:08x}" for m in regions)]
-        + ["work 2208 80", "answer " + " ".join(map(str, answer))]
-        + [f"parameters 15 {hexed(*after[:15])}", f"points 15 {hexed(*after[:15])}"]
-        + ["masks 0 elements 0 surface 0"]
+        + ["regions 0" if regions is None else listed("regions 1", regions, lambda m: f"{m:08x}")]
+        + [f"work {work[0]} {work[1]}", "answer " + " ".join(map(str, answer))]
+        + (buffers(*after) if answer[0] == 0 else [])
     )
 
 
@@ -424,4 +516,67 @@ for fields, number, regions in MOVES:
     answer, points = move(fields, regions)
     show("smooth", len(fields), number, *answer, 1, 1, 1, hexed(*points))
     if CASES:
-        print(case(f"move-{len(fields)}-{number}", fields, regions))
+        floats = [float(x) for p in CORNER for x in p] + [9.0] * 3
+        before = (floats, floats, CORNER_MASKS, [v for t in QUARTERS for v in t] + [7] * 18, [5] * 50)
+        after = (points[:15], points[:15], [], [], [])
+        print(case(f"move-{len(fields)}-{number}", (5, 4, 4), before, 1, fields, regions, (2208, 80), answer, after))
+
+
+# `flip` on the meshes of the trial program, by number: points, elements, surface.
+def pair(z):
+    return [(4, 0, 0), (-2, 3, 0), (-2, -3, 0), (0, 0, z), (0, 0, -z)]
+
+
+def sides(u, v, w):
+    return [(3, u, v), (3, u, w), (3, v, w), (4, u, v), (4, u, w), (4, v, w)]
+
+
+ON_FACE = [(0, 1, 2, 3), (0, 2, 1, 4)]
+AROUND = [(4, 3, 0, 1), (4, 3, 1, 2), (4, 3, 2, 0)]
+FLIPS = [
+    (pair(0.25), ON_FACE, sides(0, 1, 2)),
+    (pair(24), AROUND, sides(0, 1, 2)),
+    (pair(0.25), ON_FACE, sides(0, 1, 2)[:5] + [(0, 1, 2)]),
+    ([(0, 0, 0), (1, 0, 0), (0.5, 3, 0), (0.5, 0.3, 0.8), (0.5, -1e-10, -1e-13)], ON_FACE, sides(0, 1, 2)),
+    (
+        pair(0.25) + [(-4, 0, 0), (2, -3, 0), (2, 3, 0)],
+        ON_FACE + [(5, 6, 7, 3), (5, 7, 6, 4)],
+        sides(0, 1, 2) + sides(5, 6, 7),
+    ),
+    ([(-1, -2, -3), (-1, 0, 0), (-2, 0, 3), (0, 0, 0), (0, 4, 0)], ON_FACE, sides(0, 1, 2)),
+    (*MESHES[1], [f for t in ((0, 1, 2, 3), (0, 4, 5, 6)) for f in itertools.combinations(t, 3)]),
+    (
+        [(-2, -1, 2), (0, 3, 1), (-1, 0, 1), (1, -1, 0), (3, 2, -3), (-2, 0, 1)],
+        [(0, 1, 3, 4), (0, 3, 5, 4), (0, 1, 4, 2), (0, 2, 4, 5)],
+        [(a, *e) for a in (0, 4) for e in ((1, 2), (1, 3), (2, 5), (3, 5))],
+    ),
+    (pair(0.5), ON_FACE, sides(0, 1, 2)),
+    (pair(0.125), AROUND, sides(0, 1, 2)),
+    (pair(0.25)[:3] + [(0, 1, 0.25), (-1, 0, -0.125)], ON_FACE, sides(0, 1, 2)),
+    (
+        pair(24) + [(0, 0, 10)],
+        AROUND + [(0, 1, 2, 5)],
+        sides(0, 1, 2) + list(itertools.combinations((0, 1, 2, 5), 3)),
+    ),
+]
+
+
+def flat(tuples):
+    return [x for t in tuples for x in t]
+
+
+def padded(items, length, filler):
+    return items + [filler] * (length - len(items))
+
+
+for number, (points, tets, given) in enumerate(FLIPS):
+    sizes = (len(points), len(tets), len(given))
+    assert all(determinant([points[v] for v in t]) > 0 for t in tets) and not boundary_number(tets)
+    answer, left, surface = flipped(points, tets, given)
+    held = left + tets[len(left) :]
+    show("flip", number, *answer, 1, 1, 1, "elements", *flat(held), "surface", *flat(surface))
+    if CASES:
+        floats = padded([float(x) for x in flat(points)], 27, 9.0)
+        before = (floats, floats, [6] * 9, padded(flat(tets), 34, 77), padded(flat(given), 50, 55))
+        after = ([], [], [], flat(left), flat(surface))
+        print(case(f"flip-{number}", sizes, before, 2, [], None, (2304, 128), answer, after))

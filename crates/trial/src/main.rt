@@ -1,6 +1,7 @@
 // The papers' edges, run on the compiled functions: each line says what was tried and what came.
 mod boxes;
 mod fields;
+mod flips;
 mod intakes;
 mod moves;
 mod passes;
@@ -20,4 +21,5 @@ fn main() {
     intakes::run();
     passes::run();
     moves::run();
+    flips::run();
 }

@@ -38,7 +38,7 @@ fn show_floats(x: &[f64]) {
 }
 
 // Whether two slices have the same floats, at the places of the first.
-fn same_floats(x: &[f64], y: &[f64]) -> bool {
+pub(crate) fn same_floats(x: &[f64], y: &[f64]) -> bool {
     let mut i = 0;
     while i < x.len() {
         if x[i] != float_at(y, i) {

@@ -1,6 +1,6 @@
-// `improve` and `smooth` at the papers' edges: an empty mesh, two elements that meet in one vertex, an edge of length 0.75 h and one of the next
-// length below, and a refused number of passes. Each line has the mesh, the pass, the passes, the answer, 1 for each work slice of zeros, and 1 where
-// the places past the counts (all of the surface where the call is refused) hold what they held.
+// The passes at the papers' edges: an empty mesh, two elements that meet in one vertex, an edge of length 0.75 h and one of the next length below, and a
+// refused number of passes. No surface given is the boundary, except the empty one. Each line has the mesh, the pass, the passes, the answer, 1 for each
+// work slice of zeros, and 1 where the places past the counts (all of the surface where the call is refused) hold what they held.
 use crate::show::number;
 use crate::show::text;
 use geometry::bounds::Bounds;
@@ -12,11 +12,12 @@ use mesh::intake::Sizes;
 use mesh::words::put_float;
 use mesh::words::put_word;
 use repair::answer::Answer;
+use repair::flip::flip;
 use repair::improve::improve;
 use repair::smooth::smooth;
 ghost use Prim.Native.Nat.{_<_};
 
-// A call: the mesh, the pass (0 `improve`, 1 `smooth`) and the number of passes.
+// A call: the mesh, the pass (0 `improve`, 1 `smooth`, 2 `flip`) and the number of passes.
 struct Trial {
     mesh: u32,
     pass: u32,
@@ -49,7 +50,7 @@ pub(crate) fn put_corner(points: &mut [f64], s: f64) {
 }
 
 // Two corners that meet in vertex 0.
-fn put_touching(points: &mut [f64], elements: &mut [u32]) {
+pub(crate) fn put_touching(points: &mut [f64], elements: &mut [u32]) {
     put_corner(points, 1.0);
     put_point(points, 4, -1.0, 0.0, 0.0);
     put_point(points, 5, 0.0, -1.0, 0.0);
@@ -130,6 +131,92 @@ pub(crate) fn options(passes: u32) -> Options {
     }
 }
 
+// `flip` without fields.
+pub(crate) fn flipped(
+    z: Sizes,
+    passes: u32,
+    parameters: &mut [f64],
+    points: &mut [f64],
+    masks: &mut [u32],
+    elements: &mut [u32],
+    surface: &mut [u32],
+    work: &mut [u32],
+    floats: &mut [f64],
+) -> Answer {
+    let f = Field::Level(0.5);
+    flip(
+        z,
+        options(passes),
+        0,
+        [f, f, f, f, f, f, f, f],
+        parameters,
+        points,
+        masks,
+        elements,
+        surface,
+        work,
+        floats,
+    )
+}
+
+// `improve` without fields.
+fn improved(
+    z: Sizes,
+    passes: u32,
+    parameters: &mut [f64],
+    points: &mut [f64],
+    masks: &mut [u32],
+    elements: &mut [u32],
+    surface: &mut [u32],
+    work: &mut [u32],
+    floats: &mut [f64],
+) -> Answer {
+    let f = Field::Level(0.5);
+    improve(
+        z,
+        options(passes),
+        0,
+        [f, f, f, f, f, f, f, f],
+        parameters,
+        points,
+        masks,
+        elements,
+        surface,
+        work,
+        floats,
+    )
+}
+
+// `smooth` without fields and regions.
+fn smoothed(
+    z: Sizes,
+    passes: u32,
+    parameters: &mut [f64],
+    points: &mut [f64],
+    masks: &mut [u32],
+    elements: &mut [u32],
+    surface: &mut [u32],
+    work: &mut [u32],
+    floats: &mut [f64],
+) -> Answer {
+    let f = Field::Level(0.5);
+    smooth(
+        z,
+        options(passes),
+        0,
+        [f, f, f, f, f, f, f, f],
+        false,
+        &[],
+        parameters,
+        points,
+        masks,
+        elements,
+        surface,
+        work,
+        floats,
+    )
+}
+
 fn called(
     t: Trial,
     parameters: &mut [f64],
@@ -140,16 +227,12 @@ fn called(
     work: &mut [u32],
     floats: &mut [f64],
 ) -> Answer {
-    let f = Field::Level(0.5);
-    let fields = [f, f, f, f, f, f, f, f];
-    let o = options(t.passes);
     let z = sizes(t.mesh);
+    let n = t.passes;
     if t.pass == 0 {
-        improve(
+        return improved(
             z,
-            o,
-            0,
-            fields,
+            n,
             parameters,
             points,
             masks,
@@ -157,24 +240,32 @@ fn called(
             surface,
             work,
             floats,
-        )
-    } else {
-        smooth(
-            z,
-            o,
-            0,
-            fields,
-            false,
-            &[],
-            parameters,
-            points,
-            masks,
-            elements,
-            surface,
-            work,
-            floats,
-        )
+        );
     }
+    if t.pass == 1 {
+        return smoothed(
+            z,
+            n,
+            parameters,
+            points,
+            masks,
+            elements,
+            surface,
+            work,
+            floats,
+        );
+    }
+    flipped(
+        z,
+        n,
+        parameters,
+        points,
+        masks,
+        elements,
+        surface,
+        work,
+        floats,
+    )
 }
 
 // Whether each word from place `from` on is w.
@@ -210,12 +301,12 @@ fn written(given: Answer) -> usize {
 }
 
 // Three places each for n things, at most 1,000 of them.
-fn three(n: usize) -> usize {
+pub(crate) fn three(n: usize) -> usize {
     if n < 1000 { 3 * n } else { 3000 }
 }
 
 // Four places each for n things, at most 1,000 of them.
-fn four(n: usize) -> usize {
+pub(crate) fn four(n: usize) -> usize {
     if n < 1000 { 4 * n } else { 4000 }
 }
 
@@ -310,10 +401,13 @@ fn tried(mesh: u32, pass: u32, passes: u32) {
 pub(crate) fn run() {
     tried(0, 0, 1);
     tried(0, 1, 1);
+    tried(0, 2, 1);
     tried(1, 0, 1);
     tried(1, 1, 1);
+    tried(1, 2, 1);
     tried(2, 0, 1);
     tried(3, 0, 1);
     tried(3, 0, 17);
     tried(3, 1, 17);
+    tried(3, 2, 17);
 }
