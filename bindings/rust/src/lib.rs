@@ -284,9 +284,8 @@ pub fn boundary(elements: &[[u32; 4]]) -> Result<Vec<[u32; 3]>, Refusal> {
 pub fn report(file: &[u8]) -> String {
     let mut out = vec![0; 50_000];
     // SAFETY: both pointers are those of live slices of the lengths beside them, which do not overlap.
-    let length = unsafe {
-        plain::halmafir_report(file.as_ptr(), file.len(), out.as_mut_ptr(), out.len())
-    };
+    let length =
+        unsafe { plain::halmafir_report(file.as_ptr(), file.len(), out.as_mut_ptr(), out.len()) };
     out.truncate(length);
     String::from_utf8_lossy(&out).into_owned()
 }

@@ -184,7 +184,7 @@ fn a_refusal_says_its_row() {
 
 /// Two flat elements on the face 0 1 2, whose apexes are close to its middle.
 fn two_on_a_face() -> Mesh {
-    let points = [[0., 0., 0.], [4., 0., 0.], [0., 4., 0.], [1., 1., 0.25], [1., 1., -0.25]];
+    let points = [[4., 0., 0.], [-2., 3., 0.], [-2., -3., 0.], [0., 0., 0.25], [0., 0., -0.25]];
     mesh(&points, &[[0, 1, 2, 3], [0, 2, 1, 4]])
 }
 
@@ -214,7 +214,7 @@ fn report_prints_the_sample() {
         let file = std::fs::read(format!("{root}/samples/{name}.blocks")).unwrap();
         let table = std::fs::read_to_string(format!("{root}/samples/{name}.table")).unwrap();
         assert_eq!(report(&file), table);
-        assert_eq!(report(&file[1..]), "refused 1\n");
+        assert_eq!(report(&file[..file.len() - 1]), "refused 1\n");
     }
     assert_eq!(report(b""), "refused 1\n");
 }

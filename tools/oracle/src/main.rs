@@ -13,12 +13,12 @@ mod agree;
 mod bench;
 #[cfg(feature = "bridge")]
 mod bridge;
-#[cfg(feature = "bridge")]
-mod bridge_surface;
 #[cfg(feature = "bridge-mesh")]
 mod bridge_mesh;
 #[cfg(feature = "bridge-plot")]
 mod bridge_plot;
+#[cfg(feature = "bridge")]
+mod bridge_surface;
 mod case;
 mod coverage;
 mod differ;

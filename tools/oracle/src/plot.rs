@@ -80,8 +80,7 @@ fn mesh(vertices: (usize, &[Words]), elements: (usize, &[Words])) -> Mesh {
     }
     let tets: Vec<_> = (0..elements.0).map(|i| mesh.element(i)).collect();
     let surface = intake::boundary(&tets).unwrap_or_default();
-    mesh.sizes =
-        Sizes { vertices: vertices.0, elements: elements.0, triples: surface.len() };
+    mesh.sizes = Sizes { vertices: vertices.0, elements: elements.0, triples: surface.len() };
     mesh.surface = surface.into_iter().flatten().map(|v| v as u32).collect();
     mesh.surface.resize(12 * 2 * MOST, 0);
     mesh

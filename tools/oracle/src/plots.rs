@@ -134,7 +134,10 @@ fn told(what: &str, (count, different): (u64, u64)) -> Result<(), String> {
 /// COUNT files from a seed, then one good file damaged at every byte and cut at every length.
 pub fn report(port: Port, count: u64, seed: u64) -> Result<(), String> {
     told(&format!("from seed {seed}"), compare(port, (0..count).map(|i| file(seed, i))))?;
-    told("from one file, each byte changed, cut at each length", compare(port, every_byte(&good(seed))))
+    told(
+        "from one file, each byte changed, cut at each length",
+        compare(port, every_byte(&good(seed))),
+    )
 }
 
 /// The program at a path as port.
@@ -153,5 +156,8 @@ fn program(path: &str, input: &[u8]) -> Vec<u8> {
 /// The same files through a program's standard input and output.
 pub fn report_program(path: &str, count: u64, seed: u64) -> Result<(), String> {
     let port = |input: &[u8]| program(path, input);
-    told(&format!("from seed {seed} through {path}"), compare(port, (0..count).map(|i| file(seed, i))))
+    told(
+        &format!("from seed {seed} through {path}"),
+        compare(port, (0..count).map(|i| file(seed, i))),
+    )
 }

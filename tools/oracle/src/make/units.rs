@@ -21,13 +21,7 @@ pub const FLOATS: [&str; 10] = [
 ];
 
 /// The others.
-pub const OTHERS: [&str; 5] = [
-    "project",
-    "boundary",
-    "link",
-    "feature",
-    "nonmanifold",
-];
+pub const OTHERS: [&str; 5] = ["project", "boundary", "link", "feature", "nonmanifold"];
 
 /// All, in the order of stored files.
 pub fn names() -> impl Iterator<Item = &'static str> {
