@@ -54,8 +54,8 @@ oracle compare COUNT [SEED]         COUNT inputs for each function of the port (
 oracle agree COUNT [SEED [PASSES]]  COUNT lists of calls on the port's passes, all or those of a list
                                     as improve,smooth (feature bridge-passes; without it the
                                     original stands for the port)
-oracle bench [RUNS]                 times of the port's improve and smooth, of intake and of the
-                                    original (feature bridge-passes)
+oracle bench [RUNS]                 times of the port's passes, of intake and of the original
+                                    (feature bridge-passes)
 oracle plot FILE                    what `plot` prints for a block file
 oracle plot-file SEED               write a generated block file to standard output
 oracle plots COUNT [SEED]           COUNT block files, whole and damaged, on the port's report function

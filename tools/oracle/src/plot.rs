@@ -3,7 +3,7 @@ use crate::intake;
 use crate::mesh::{Answer, Call, Mesh, PASSES, Pass, Sizes};
 use crate::original::{DOC01, value};
 use crate::shell;
-use std::collections::BTreeSet;
+use crate::wholeness::{alternating, tets};
 
 const BLOCK: usize = 512;
 const VERTICES: usize = 9;
@@ -102,28 +102,14 @@ pub fn read(file: &[u8]) -> Result<(Call, Mesh), u32> {
     Ok((call(&header), mesh((nv, &vertices), (ne, &elements))))
 }
 
-/// Vertices - edges + triangles - elements of the elements.
-fn alternating(tets: &[[usize; 4]]) -> i64 {
-    let mut simplices = [const { BTreeSet::new() }; 4];
-    for t in tets {
-        for bits in 1..16usize {
-            let mut s: Vec<_> = (0..4).filter(|k| bits >> k & 1 == 1).map(|k| t[k]).collect();
-            s.sort_unstable();
-            simplices[s.len() - 1].insert(s);
-        }
-    }
-    let [v, e, f, t] = simplices.map(|s| s.len() as i64);
-    v - e + f - t
-}
-
 /// The table after a run with these counts.
 fn table(call: &Call, mesh: &Mesh, counts: [usize; 3]) -> String {
-    let tets: Vec<_> = (0..mesh.sizes.elements).map(|i| mesh.element(i)).collect();
+    let tets = tets(mesh);
     let bad = |t: &&[usize; 4]| (DOC01.score)(t.map(|v| mesh.point(v))) < 0.1;
     let [collapse, moved, reconnect] = counts;
     let mut out = format!("vertices {} elements {}\n", mesh.sizes.vertices, tets.len());
     out += &format!("collapse {collapse} move {moved} reconnect {reconnect}\n");
-    out += &format!("low {} euler {}\n", tets.iter().filter(bad).count(), alternating(&tets));
+    out += &format!("low {} euler {}\n", tets.iter().filter(bad).count(), alternating(mesh));
     for (j, &field) in call.fields.iter().enumerate() {
         let inside = tets.iter().filter(|t| value(field, mesh.point(t[0])) <= 0.).count();
         out += &format!("inside {j} {inside}\n");

@@ -8,12 +8,12 @@ use crate::original::{DOC01, determinant, rank};
 use crate::shell;
 use std::collections::HashSet;
 
-fn tets(mesh: &Mesh) -> Vec<[usize; 4]> {
+pub fn tets(mesh: &Mesh) -> Vec<[usize; 4]> {
     (0..mesh.sizes.elements).map(|i| mesh.element(i)).collect()
 }
 
 /// Vertices minus edges plus triangles minus elements, each counted once, where an element uses it.
-fn alternating(mesh: &Mesh) -> i64 {
+pub fn alternating(mesh: &Mesh) -> i64 {
     let mut sets: [HashSet<Vec<usize>>; 4] = Default::default();
     for t in tets(mesh) {
         for bits in 1..16usize {
