@@ -580,3 +580,149 @@ for number, (points, tets, given) in enumerate(FLIPS):
         before = (floats, floats, [6] * 9, padded(flat(tets), 34, 77), padded(flat(given), 50, 55))
         after = ([], [], [], flat(left), flat(surface))
         print(case(f"flip-{number}", sizes, before, 2, [], None, (2304, 128), answer, after))
+
+
+# Block files, through `report`. The files are made by tools/blocks/blocks.py, and read here anew, as document 01 says.
+sys.dont_write_bytecode = True
+sys.path.insert(0, "tools/blocks")
+import blocks  # noqa: E402
+
+
+def words_at(data, k):
+    return struct.unpack_from("<128I", data, 512 * k)
+
+
+def floats_in(words, i, n):
+    return [of(words[i + 2 * j] | words[i + 2 * j + 1] << 32) for j in range(n)]
+
+
+def small(*floats):
+    return all(abs(x) <= 2**20 for x in floats)
+
+
+def read_blocks(data):
+    """The number of the table's block part or 10, and where there is none the header and the records of vertices and of elements."""
+
+    def checked(k, kind, count):
+        if len(data) < 512 * (k + 1):
+            return 1
+        words = words_at(data, k)
+        return 2 if sum(words) % 2**32 else 3 if words[:3] != (kind, k, count) else 0
+
+    number = checked(0, 1, 1)
+    if number:
+        return number, None
+    header = words_at(data, 0)
+    if header[3] > 24 or header[4] > 24:
+        return 10, None
+    found, k = {2: [], 3: []}, 1
+    for kind, total, full, size in ((2, header[3], 9, 13), (3, header[4], 31, 4)):
+        while len(found[kind]) < total:
+            count = min(full, total - len(found[kind]))
+            number = checked(k, kind, count)
+            if number:
+                return number, None
+            found[kind] += rows(words_at(data, k)[3 : 3 + size * count], size)
+            k += 1
+    return int(len(data) > 512 * k), (header, found[2], found[3])
+
+
+def header_number(header):
+    """11, or 0."""
+    box, cells, (periodic, passes, fields) = floats_in(header, 5, 6), header[17:20], header[20:23]
+    if not small(*box) or any(not lo < hi for lo, hi in rows(box, 2)):
+        return 11
+    if any(not 1 <= c <= 4096 for c in cells) or periodic > 7 or passes > 16 or fields > 8:
+        return 11
+    for j in range(fields):
+        kind = header[23 + 9 * j]
+        if kind > 2 or not small(*floats_in(header, 24 + 9 * j, 4 if kind else 1)):
+            return 11
+    return 0
+
+
+def plotted(data):
+    """What `plot` prints. A table only for meshes that the passes leave as they are."""
+    number, read = read_blocks(data)
+    if number:
+        return f"refused {number}"
+    header, vertices, tets = read
+    number = header_number(header)
+    if number:
+        return f"refused {number}"
+    lo, hi = floats_in(header, 5, 6)[::2], floats_in(header, 5, 6)[1::2]
+    parameters, points = ([floats_in(v, i, 3) for v in vertices] for i in (0, 6))
+    if any(not small(*p) for p in points) or any(not lo[a] <= p[a] <= hi[a] for p in parameters for a in range(3)):
+        return "refused 12"
+    if any(v >= len(points) or t.count(v) > 1 for t in tets for v in t):
+        return "refused 13"
+    if len({tuple(sorted(t)) for t in tets}) < len(tets):
+        return "refused 14"
+    if any(not determinant([points[v] for v in t]) > 0 for t in tets):
+        return "refused 15"
+    if boundary_number(tets):
+        return f"refused {boundary_number(tets)}"
+    scores = [score([points[v] for v in t]) for t in tets]
+    assert all(s >= 0.15 for s in scores)
+    if not manifold(tets):
+        return "refused 22"
+    assert list(dict.fromkeys(flat(tets))) == list(range(len(points)))
+    simplices = [{tuple(sorted(s)) for t in tets for s in itertools.combinations(t, n)} for n in (1, 2, 3, 4)]
+    counts = [len(s) for s in simplices]
+    lines = [f"vertices {len(points)} elements {len(tets)}", "collapse 0 move 0 reconnect 0"]
+    lines.append(f"low {sum(s < 0.1 for s in scores)} euler {counts[0] - counts[1] + counts[2] - counts[3]}")
+    for j in range(header[22]):
+        given = header[23 + 9 * j], floats_in(header, 24 + 9 * j, 4)
+        lines.append(f"inside {j} {sum(field(*given, points[t[0]])[0] <= 0 for t in tets)}")
+    return "\n".join(lines + ["element " + " ".join(map(str, t)) for t in tets])
+
+
+def plot_file(points, tets, low=0.0):
+    plot = blocks.Plot()
+    plot.box = [low, 1.0] * 3
+    plot.fields = [(0, [0.5])]
+    plot.vertices = [[float(x) for x in p] * 2 + [0] for p in points]
+    plot.elements = tets
+    return plot.bytes()
+
+
+def answers(files):
+    """Each answer to the files, 0 for a table, and how often it came."""
+    texts = [plotted(f) for f in files]
+    given = [int(t[8:]) if t.startswith("refused") else 0 for t in texts]
+    return [x for number in sorted(set(given)) for x in (number, given.count(number))]
+
+
+def with_word(data, i, words):
+    """The file with words from i on, their block sealed anew."""
+    k = i // 128
+    block = list(words_at(data, k))[:127]
+    block[i % 128 : i % 128 + len(words)] = words
+    return data[: 512 * k] + blocks.sealed(block) + data[512 * k + 512 :]
+
+
+SIDE = [(0, 0, 0), (1, 0, 0), (0, 1, 0), (0, 0, 1), (0.25, 0.25, 0.5), (0.25, 0.25, 1)]
+FILES = [
+    plot_file(SIDE[:4], [(0, 1, 2, 3)]),
+    plot_file([], []),
+    plot_file(SIDE[:4], [(0, 1, 3, 2)]),
+    plot_file(SIDE[:4], [(0, 1, 2, 3), (1, 2, 0, 3)]),
+    plot_file(SIDE, [(0, 1, 2, 3), (0, 1, 2, 4), (0, 1, 2, 5)]),
+    plot_file(SIDE[:5], [(0, 1, 2, 3), (0, 1, 2, 4)]),
+    plot_file(*MESHES[1], -1.0),
+]
+GOOD = FILES[0]
+for mesh, data in enumerate(FILES):
+    show(f"block mesh {mesh} {len(data)}\n{plotted(data)}")
+for bit in (1, 128):
+    changed = [GOOD[:i] + bytes([GOOD[i] ^ bit]) + GOOD[i + 1 :] for i in range(len(GOOD))]
+    show("block changed", bit, *answers(changed))
+for mesh, first, end in ((0, 0, 1536), (0, 1536, 2562), (1, 0, 1025)):
+    twice = FILES[mesh] + FILES[mesh]
+    show("block lengths", mesh, first, end, *answers([twice[:n] for n in range(first, end)]))
+for i in cases("blocks", "WORDS"):
+    show("block values", i, *answers([with_word(GOOD, i, [v]) for v in range(40)]))
+for i, words, v in rows(cases("blocks", "EDITS"), 3):
+    data = with_word(GOOD, i, [v % 2**32, v >> 32][:words])
+    show(f"block edit {i} {v:016x} {plotted(data)}")
+show("block exchanged", plotted(GOOD[:512] + GOOD[1024:] + GOOD[512:1024]))

@@ -1,4 +1,5 @@
 // The papers' edges, run on the compiled functions: each line says what was tried and what came.
+mod blocks;
 mod boxes;
 mod fields;
 mod flips;
@@ -22,4 +23,5 @@ fn main() {
     passes::run();
     moves::run();
     flips::run();
+    blocks::run();
 }
