@@ -119,10 +119,12 @@ module _ (μ : Measure) where
       let others = unique eqb (sort leb (besides (e .a ∷ e .b ∷ []) (elementsAt (s .slots) is))) in
       cond (eqb (length is) 3 && eqb (length others) 3) (threeToTwo s e is (getD others 0 0) (getD others 1 0) (getD others 2 0)) s
 
+  -- the faces one after the other
   unfoldable pub tryFaces : List Tet → State → List Triple → State
   tryFaces ts s [] = s
   tryFaces ts s (f ∷ fs) = tryFaces ts (tryFace ts s f) fs
 
+  -- the edges one after the other
   unfoldable pub tryEdges : State → List Pair → State
   tryEdges s [] = s
   tryEdges s (e ∷ es) = tryEdges (tryEdge s e) es
@@ -137,6 +139,7 @@ module _ (μ : Measure) where
 abbrev pub sortedKeys : List Triple → List Triple
 sortedKeys fs = sort leTriple (map keyOf fs)
 
+-- are two lists of triples the same
 unfoldable pub sameTriples : List Triple → List Triple → Bool
 sameTriples [] [] = true
 sameTriples [] (g ∷ gs) = false

@@ -19,10 +19,11 @@ use Rattle.repair.specs.Layout.{slotOk}
 
 -- ---- the areas
 
--- where the faces and the edges begin, each behind a copy of the elements of the start
+-- where the faces begin, and with them the edges: each behind a copy of the elements of the start
 abbrev pub facesAt : Index → ℕ
 facesAt x = x .lengths + x .vertices
 
+-- the edges lie behind the faces
 abbrev pub edgesAt : Index → ℕ → ℕ
 edgesAt x n = facesAt x + 44 * n
 

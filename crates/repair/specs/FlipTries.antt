@@ -80,6 +80,7 @@ FacesListed nv ts (f ∷ fs) = FaceListed nv ts f (getD (owners ts f) 0 0) (getD
 abbrev pub EdgeListed : ℕ → Pair → Type 0
 EdgeListed nv e = (e .a < e .b) × (e .b < nv)
 
+-- the same of all edges
 abbrev pub EdgesListed : ℕ → List Pair → Type 0
 EdgesListed nv [] = Unit {0}
 EdgesListed nv (e ∷ es) = EdgeListed nv e × EdgesListed nv es
@@ -88,10 +89,11 @@ EdgesListed nv (e ∷ es) = EdgeListed nv e × EdgesListed nv es
 abbrev pub edgeRow : Pair → List ℕ
 edgeRow e = e .a ∷ e .b ∷ []
 
--- where the rows of the faces and those of the edges begin
+-- where the rows of the faces begin
 abbrev pub faceRowsAt : Index → ℕ → ℕ
 faceRowsAt x n = facesAt x + 4 * n
 
+-- those of the edges, behind the bad elements
 abbrev pub edgeRowsAt : Index → ℕ → ℕ → ℕ
 edgeRowsAt x n bad = edgesAt x n + 4 * n + 4 * bad
 

@@ -35,10 +35,11 @@ blockNumber s k kind count =
 
 -- ---- the blocks of a file
 
--- "Vertex record, 9 a block", "Element record: 4 words, 31 a block"
+-- "Vertex record, 9 a block": how many blocks n vertices take
 abbrev pub vertexBlocks : ℕ → ℕ
 vertexBlocks n = (n + 8) / 9
 
+-- "Element record: 4 words, 31 a block": how many blocks n elements take
 abbrev pub elementBlocks : ℕ → ℕ
 elementBlocks n = (n + 30) / 31
 
@@ -65,6 +66,7 @@ blocksFrom s vertices elements (suc n) k =
 abbrev pub verticesIn : List ℕ → ℕ
 verticesIn s = wordIn s 3
 
+-- the header's second number: elements
 abbrev pub elementsIn : List ℕ → ℕ
 elementsIn s = wordIn s 4
 
@@ -99,6 +101,7 @@ headerOptions s = record {
 abbrev pub fieldsIn : List ℕ → ℕ
 fieldsIn s = wordIn s 22
 
+-- the kind in the place j of a field
 abbrev pub kindAt : List ℕ → ℕ → ℕ
 kindAt s j = wordIn s (23 + 9 * j)
 
@@ -112,6 +115,7 @@ fieldFrom s kind i =
 unfoldable pub fieldAt : List ℕ → ℕ → Field
 fieldAt s j = cond (ltb j (fieldsIn s)) (fieldFrom s (kindAt s j) (24 + 9 * j)) (Level zero64)
 
+-- the fields in their 8 places
 abbrev pub headerFields : List ℕ → List Field
 headerFields s =
     fieldAt s 0 ∷ fieldAt s 1 ∷ fieldAt s 2 ∷ fieldAt s 3 ∷ fieldAt s 4 ∷ fieldAt s 5 ∷ fieldAt s 6 ∷ fieldAt s 7 ∷ []
@@ -130,9 +134,11 @@ vertexPlace v = 128 * (1 + v / 9) + 3 + 13 * (v % 9)
 unfoldable pub parameterRow : List ℕ → ℕ → List Float
 parameterRow s v = floatIn s (vertexPlace v) ∷ floatIn s (vertexPlace v + 2) ∷ floatIn s (vertexPlace v + 4) ∷ []
 
+-- the point coordinates of the vertex v
 unfoldable pub pointRow : List ℕ → ℕ → List Float
 pointRow s v = floatIn s (vertexPlace v + 6) ∷ floatIn s (vertexPlace v + 8) ∷ floatIn s (vertexPlace v + 10) ∷ []
 
+-- its mask
 unfoldable pub maskRow : List ℕ → ℕ → List ℕ
 maskRow s v = wordIn s (vertexPlace v + 12) ∷ []
 
@@ -140,6 +146,7 @@ maskRow s v = wordIn s (vertexPlace v + 12) ∷ []
 unfoldable pub elementPlace : ℕ → ℕ → ℕ
 elementPlace blocks e = 128 * (blocks + e / 31) + 3 + 4 * (e % 31)
 
+-- the four vertices of the element e, behind this many blocks
 unfoldable pub elementRow : List ℕ → ℕ → ℕ → List ℕ
 elementRow s blocks e =
     wordIn s (elementPlace blocks e) ∷ wordIn s (elementPlace blocks e + 1)
@@ -159,6 +166,7 @@ pub record Plot : Type 0 where
   pub masks : List ℕ
   pub corners : List ℕ
 
+-- a number of the table, or what the file holds
 pub data Reading : Type 0 where
   refused : ℕ → Reading
   read : Plot → Reading
@@ -167,6 +175,7 @@ pub data Reading : Type 0 where
 unfoldable pub readingNumber : List ℕ → ℕ
 readingNumber s = firstOf (fileNumber s) (kindsNumber s)
 
+-- what the file holds, by the header's counts
 unfoldable pub plotIn : List ℕ → Plot
 plotIn s = record {
   options = headerOptions s;
@@ -180,5 +189,6 @@ plotIn s = record {
   corners = listed (elementRow s (1 + vertexBlocks (verticesIn s))) (elementsIn s);
 }
 
+-- the plot where no number applies, and else the number
 unfoldable pub reading : List ℕ → Reading
 reading s = cond (eqb (readingNumber s) 0) (read (plotIn s)) (refused (readingNumber s))

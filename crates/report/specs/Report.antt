@@ -36,10 +36,11 @@ elementRoom = 4 * (2 * 36)
 abbrev pub surfaceRoom : ℕ
 surfaceRoom = 3 * (4 * 36)
 
--- "256 32-bit words an element + 32 a vertex + 1,024", "16 f64 a vertex"
+-- "256 32-bit words an element + 32 a vertex + 1,024"
 abbrev pub wordRoom : ℕ
 wordRoom = 256 * 24 + 32 * 24 + 1024
 
+-- "16 f64 a vertex"
 abbrev pub floatRoom : ℕ
 floatRoom = 16 * 24
 
@@ -118,13 +119,15 @@ abbrev pub printed : Setting → ℕ → ℕ → ℕ → State → List ℕ
 printed g collapsed moved reconnected s =
     tableText (tableOf (take (g .count) (g .fields)) collapsed moved reconnected (meshOf s .points) (meshOf s .elements))
 
--- "runs `improve`, `smooth`, `flip` once .. and prints": what is printed from each on
+-- "runs `improve`, `smooth`, `flip` once .. and prints": what is printed from `flip` on
 unfoldable pub fromFlip : Setting → ℕ → ℕ → State → List ℕ
 fromFlip g collapsed moved = called (callOf g Pass.flip) (λ reconnected s. printed g collapsed moved reconnected s)
 
+-- the same from `smooth` on
 unfoldable pub fromSmooth : Setting → ℕ → State → List ℕ
 fromSmooth g collapsed = called (callOf g Pass.smooth) (λ moved s. fromFlip g collapsed moved s)
 
+-- the same from `improve` on
 unfoldable pub fromImprove : Setting → State → List ℕ
 fromImprove g = called (callOf g Pass.improve) (λ collapsed s. fromSmooth g collapsed s)
 

@@ -34,38 +34,47 @@ signed (negsuc n) = 45 ∷ decimal (suc n)
 
 -- ---- words
 
--- a word's bytes, a space behind it
+-- the bytes of "vertices "
 unfoldable pub vertices-word : List ℕ
 vertices-word = 118 ∷ 101 ∷ 114 ∷ 116 ∷ 105 ∷ 99 ∷ 101 ∷ 115 ∷ 32 ∷ []
 
--- the same with a space before it
+-- the bytes of " elements "
 unfoldable pub elements-word : List ℕ
 elements-word = 32 ∷ 101 ∷ 108 ∷ 101 ∷ 109 ∷ 101 ∷ 110 ∷ 116 ∷ 115 ∷ 32 ∷ []
 
+-- the bytes of "collapse "
 unfoldable pub collapse-word : List ℕ
 collapse-word = 99 ∷ 111 ∷ 108 ∷ 108 ∷ 97 ∷ 112 ∷ 115 ∷ 101 ∷ 32 ∷ []
 
+-- the bytes of " move "
 unfoldable pub move-word : List ℕ
 move-word = 32 ∷ 109 ∷ 111 ∷ 118 ∷ 101 ∷ 32 ∷ []
 
+-- the bytes of " reconnect "
 unfoldable pub reconnect-word : List ℕ
 reconnect-word = 32 ∷ 114 ∷ 101 ∷ 99 ∷ 111 ∷ 110 ∷ 110 ∷ 101 ∷ 99 ∷ 116 ∷ 32 ∷ []
 
+-- the bytes of "low "
 unfoldable pub low-word : List ℕ
 low-word = 108 ∷ 111 ∷ 119 ∷ 32 ∷ []
 
+-- the bytes of " euler "
 unfoldable pub euler-word : List ℕ
 euler-word = 32 ∷ 101 ∷ 117 ∷ 108 ∷ 101 ∷ 114 ∷ 32 ∷ []
 
+-- the bytes of "inside "
 unfoldable pub inside-word : List ℕ
 inside-word = 105 ∷ 110 ∷ 115 ∷ 105 ∷ 100 ∷ 101 ∷ 32 ∷ []
 
+-- the bytes of "element "
 unfoldable pub element-word : List ℕ
 element-word = 101 ∷ 108 ∷ 101 ∷ 109 ∷ 101 ∷ 110 ∷ 116 ∷ 32 ∷ []
 
+-- the bytes of "refused "
 unfoldable pub refused-word : List ℕ
 refused-word = 114 ∷ 101 ∷ 102 ∷ 117 ∷ 115 ∷ 101 ∷ 100 ∷ 32 ∷ []
 
+-- the byte of a space
 unfoldable pub space : List ℕ
 space = 32 ∷ []
 
@@ -79,19 +88,24 @@ line-end = 10 ∷ []
 unfoldable pub refusedText : ℕ → List ℕ
 refusedText n = refused-word ++ (decimal n ++ line-end)
 
+-- "sizes after the run"
 unfoldable pub sizesLine : ℕ → ℕ → List ℕ
 sizesLine vertices elements = vertices-word ++ (decimal vertices ++ (elements-word ++ (decimal elements ++ line-end)))
 
+-- "the three counts"
 unfoldable pub countsLine : ℕ → ℕ → ℕ → List ℕ
 countsLine collapsed moved reconnected =
     collapse-word ++ (decimal collapsed ++ (move-word ++ (decimal moved ++ (reconnect-word ++ (decimal reconnected ++ line-end)))))
 
+-- "bad elements and the alternating count of demand 3"
 unfoldable pub stateLine : ℕ → ℤ → List ℕ
 stateLine low euler = low-word ++ (decimal low ++ (euler-word ++ (signed euler ++ line-end)))
 
+-- "per field its number and elements inside"
 unfoldable pub insideLine : ℕ → ℕ → List ℕ
 insideLine field count = inside-word ++ (decimal field ++ (space ++ (decimal count ++ line-end)))
 
+-- "one line an element"
 unfoldable pub elementLine : Tet → List ℕ
 elementLine t =
     element-word
@@ -102,6 +116,7 @@ unfoldable pub insideLines : ℕ → List ℕ → List ℕ
 insideLines j [] = []
 insideLines j (n ∷ ns) = insideLine j n ++ insideLines (j + 1) ns
 
+-- a line for each element
 unfoldable pub elementLines : List Tet → List ℕ
 elementLines [] = []
 elementLines (t ∷ ts) = elementLine t ++ elementLines ts
@@ -119,6 +134,7 @@ pub record Table : Type 0 where
   pub inside : List ℕ
   pub elements : List Tet
 
+-- all lines, one after the other
 unfoldable pub tableText : Table → List ℕ
 tableText t =
     sizesLine (t .vertices) (length (t .elements))
@@ -143,5 +159,6 @@ insideCount points elements f = length (keep (isInside points f) elements)
 abbrev pub isLow : List Point → Tet → Bool
 isLow points t = bad (score (pointAt points (t .a)) (pointAt points (t .b)) (pointAt points (t .c)) (pointAt points (t .d)))
 
+-- how many elements are bad
 unfoldable pub lowCount : List Point → List Tet → ℕ
 lowCount points elements = length (keep (isLow points) elements)
