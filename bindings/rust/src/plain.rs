@@ -19,42 +19,35 @@ pub type Change = unsafe extern "C" fn(
     &mut [usize; 4],
 ) -> u32;
 
+/// Declares passes that may change the whole mesh.
+#[rustfmt::skip]
+macro_rules! changes {
+    ($($name:ident),*) => {
+        unsafe extern "C" {
+            $(pub fn $name(
+                parameters: *mut f64, parameters_len: usize,
+                points: *mut f64, points_len: usize,
+                masks: *mut u32, masks_len: usize,
+                elements: *mut u32, elements_len: usize,
+                surface: *mut u32, surface_len: usize,
+                sizes: &[usize; 3],
+                bounds: &[f64; 6],
+                settings: &[u32; 5],
+                field_count: u32,
+                kinds: &[u32; 8],
+                numbers: &[f64; 32],
+                words: *mut u32, words_len: usize,
+                floats: *mut f64, floats_len: usize,
+                result: &mut [usize; 4],
+            ) -> u32;)*
+        }
+    };
+}
+
+changes!(halmafir_improve, halmafir_flip);
+
 #[rustfmt::skip]
 unsafe extern "C" {
-    pub fn halmafir_improve(
-        parameters: *mut f64, parameters_len: usize,
-        points: *mut f64, points_len: usize,
-        masks: *mut u32, masks_len: usize,
-        elements: *mut u32, elements_len: usize,
-        surface: *mut u32, surface_len: usize,
-        sizes: &[usize; 3],
-        bounds: &[f64; 6],
-        settings: &[u32; 5],
-        field_count: u32,
-        kinds: &[u32; 8],
-        numbers: &[f64; 32],
-        words: *mut u32, words_len: usize,
-        floats: *mut f64, floats_len: usize,
-        result: &mut [usize; 4],
-    ) -> u32;
-
-    pub fn halmafir_flip(
-        parameters: *mut f64, parameters_len: usize,
-        points: *mut f64, points_len: usize,
-        masks: *mut u32, masks_len: usize,
-        elements: *mut u32, elements_len: usize,
-        surface: *mut u32, surface_len: usize,
-        sizes: &[usize; 3],
-        bounds: &[f64; 6],
-        settings: &[u32; 5],
-        field_count: u32,
-        kinds: &[u32; 8],
-        numbers: &[f64; 32],
-        words: *mut u32, words_len: usize,
-        floats: *mut f64, floats_len: usize,
-        result: &mut [usize; 4],
-    ) -> u32;
-
     pub fn halmafir_smooth(
         parameters: *mut f64, parameters_len: usize,
         points: *mut f64, points_len: usize,

@@ -1,9 +1,5 @@
 //! The port's report function from the interface crate's static library.
-
-unsafe extern "C" {
-    /// Writes the text for the input to the front of `out`, and gives its length.
-    fn halmafir_report(input: *const u8, input_len: usize, out: *mut u8, out_len: usize) -> usize;
-}
+use crate::halmafir::halmafir_report;
 
 pub fn port(file: &[u8]) -> Vec<u8> {
     let mut out = vec![0xAA; 4096];

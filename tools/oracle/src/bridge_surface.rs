@@ -1,5 +1,6 @@
 //! The port's boundary from the interface crate and its nonmanifold test from the export crate.
 use crate::bridge::Value;
+use crate::halmafir::halmafir_boundary;
 use crate::original;
 use crate::unit::Unit;
 
@@ -7,14 +8,6 @@ pub const COMPARED: [&str; 2] = ["boundary", "nonmanifold"];
 
 #[rustfmt::skip]
 unsafe extern "C" {
-    /// 16 or 17 or 0.
-    fn halmafir_boundary(
-        elements: *const u32, elements_len: usize,
-        count: usize,
-        surface: *mut u32, surface_len: usize,
-        work: *mut u32, work_len: usize,
-        triples: &mut usize,
-    ) -> u32;
     /// 1 where some vertex of the surface is nonmanifold.
     fn h_nonmanifold(
         surface: *const u32, surface_len: usize,

@@ -22,6 +22,11 @@ mod bridge_surface;
 mod case;
 mod coverage;
 mod differ;
+/// The functions of include/halmafir.h.
+#[cfg(feature = "bridge")]
+#[allow(dead_code)]
+#[path = "../../../bindings/rust/src/plain.rs"]
+mod halmafir;
 mod intake;
 mod make;
 mod mesh;

@@ -1,4 +1,5 @@
 //! The port's passes from the interface crate's static library, its intake from the export crate's.
+use crate::halmafir::{Change, halmafir_flip, halmafir_improve, halmafir_smooth};
 use crate::mesh::{Answer, Call, Mesh, Pass, Sizes};
 
 /// Inputs beside the mesh, as the interface crate takes them: cells, periodic, passes; kinds and
@@ -28,77 +29,8 @@ impl Plain {
 /// Count, vertices, elements, triples.
 type Result4 = [usize; 4];
 
-/// A pass that may change the whole mesh.
-#[rustfmt::skip]
-type Change = unsafe extern "C" fn(
-    *mut f64, usize,
-    *mut f64, usize,
-    *mut u32, usize,
-    *mut u32, usize,
-    *mut u32, usize,
-    &[usize; 3],
-    &[f64; 6],
-    &[u32; 5],
-    u32,
-    &[u32; 8],
-    &[f64; 32],
-    *mut u32, usize,
-    *mut f64, usize,
-    &mut Result4,
-) -> u32;
-
 #[rustfmt::skip]
 unsafe extern "C" {
-    fn halmafir_improve(
-        parameters: *mut f64, parameters_len: usize,
-        points: *mut f64, points_len: usize,
-        masks: *mut u32, masks_len: usize,
-        elements: *mut u32, elements_len: usize,
-        surface: *mut u32, surface_len: usize,
-        sizes: &[usize; 3],
-        bounds: &[f64; 6],
-        settings: &[u32; 5],
-        count: u32,
-        kinds: &[u32; 8],
-        numbers: &[f64; 32],
-        words: *mut u32, words_len: usize,
-        floats: *mut f64, floats_len: usize,
-        result: &mut Result4,
-    ) -> u32;
-    fn halmafir_flip(
-        parameters: *mut f64, parameters_len: usize,
-        points: *mut f64, points_len: usize,
-        masks: *mut u32, masks_len: usize,
-        elements: *mut u32, elements_len: usize,
-        surface: *mut u32, surface_len: usize,
-        sizes: &[usize; 3],
-        bounds: &[f64; 6],
-        settings: &[u32; 5],
-        count: u32,
-        kinds: &[u32; 8],
-        numbers: &[f64; 32],
-        words: *mut u32, words_len: usize,
-        floats: *mut f64, floats_len: usize,
-        result: &mut Result4,
-    ) -> u32;
-    fn halmafir_smooth(
-        parameters: *mut f64, parameters_len: usize,
-        points: *mut f64, points_len: usize,
-        masks: *const u32, masks_len: usize,
-        elements: *const u32, elements_len: usize,
-        surface: *const u32, surface_len: usize,
-        sizes: &[usize; 3],
-        bounds: &[f64; 6],
-        settings: &[u32; 5],
-        count: u32,
-        kinds: &[u32; 8],
-        numbers: &[f64; 32],
-        listed: u32,
-        regions: *const u32, regions_len: usize,
-        words: *mut u32, words_len: usize,
-        floats: *mut f64, floats_len: usize,
-        result: &mut Result4,
-    ) -> u32;
     /// Intake's number.
     fn h_intake(
         parameters: *const f64, parameters_len: usize,
