@@ -98,16 +98,6 @@ fn call(pass: Pass, block: &Block, n: usize) -> Call {
     }
 }
 
-/// The shortest of several runs, and what the last gave.
-fn best<T>(runs: u64, mut run: impl FnMut() -> (Duration, T)) -> (Duration, T) {
-    let mut first = run();
-    for _ in 1..runs {
-        let (time, given) = run();
-        first = (first.0.min(time), given);
-    }
-    first
-}
-
 fn port(start: &Mesh, call: &Call) -> (Duration, Answer) {
     let mut mesh = start.clone();
     let mut words = vec![1; call.words];
@@ -133,41 +123,66 @@ fn original(mesh: &Mesh, call: &Call) -> (Duration, Option<usize>) {
     (clock.elapsed(), given.ok())
 }
 
+/// The shortest times of the port, of its intake and of the original, which take turns.
+struct Times {
+    port: Duration,
+    intake: Duration,
+    original: Duration,
+}
+
+/// One mesh, one pass: the times, and how much the pass changed, which both sides must agree on.
+fn measure(mesh: &Mesh, call: &Call, runs: u64) -> (Times, usize) {
+    let mut best = Times {
+        port: Duration::MAX,
+        intake: Duration::MAX,
+        original: Duration::MAX,
+    };
+    let mut changed = 0;
+    for _ in 0..runs {
+        let (ours, given) = port(mesh, call);
+        let (taken, number) = intake(mesh, call);
+        let (theirs, count) = original(mesh, call);
+        let Answer::Done(n, _) = given else { panic!("the port refused: {given:?}") };
+        assert_eq!((number, Some(n)), (0, count), "the two sides differ");
+        best.port = best.port.min(ours);
+        best.intake = best.intake.min(taken);
+        best.original = best.original.min(theirs);
+        changed = n;
+    }
+    (best, changed)
+}
+
 fn line(name: &str, block: &Block, n: usize, groups: Option<f64>, runs: u64) {
-    println!(
-        "{name} {n}: {} vertices, {} elements, {:.0} % bad",
-        block.points.len(),
-        block.tets.len(),
-        100. * bad_part(block)
-    );
     for pass in PASSES {
         let (mut mesh, call) = (mesh(block), call(pass, block, n));
         if let Some(side) = groups {
             few_groups(&mut mesh, &call, side);
         }
-        let (ours, given) = best(runs, || port(&mesh, &call));
-        let (taken, _) = best(runs, || intake(&mesh, &call));
-        let (theirs, count) = best(runs, || original(&mesh, &call));
+        let (times, count) = measure(&mesh, &call, runs);
         let ms = |d: Duration| d.as_secs_f64() * 1000.;
+        let [port, intake, original] = [times.port, times.intake, times.original].map(ms);
         println!(
-            "  {:8} port {:9.3} ms, its intake {:8.3} ms, original {:9.3} ms, {:.2} of it; {given:?}, original {count:?}",
+            "| {name} | {} | {:.0} % | {} | {count} | {port:.3} | {intake:.3} | {original:.3} | {:.2} | {:.2} |",
+            block.tets.len(),
+            100. * bad_part(block),
             pass.name(),
-            ms(ours),
-            ms(taken),
-            ms(theirs),
-            ms(ours) / ms(theirs)
+            port / original,
+            (port - intake) / original
         );
     }
 }
 
+/// A table in the form of docs/SPEED.md.
 pub fn report(runs: u64) {
+    println!("| Mesh | Elements | Bad | Pass | Count | Port | its intake | Original | Ratio | without intake |");
+    println!("|---|---|---|---|---|---|---|---|---|---|");
     for n in [3, 6, 10, 13] {
-        line("distorted", &distorted(n), n, None, runs);
+        line(&format!("distorted {n}"), &distorted(n), n, None, runs);
     }
-    line("pressed", &pressed(13), 13, None, runs);
+    line("pressed 13", &pressed(13), 13, None, runs);
     line("around an edge", &around_edge(4094), 20, None, runs);
     line("about a vertex", &about_vertex(45, 90), 20, None, runs);
     for side in [2., 4.] {
-        line("in few groups", &distorted(13), 13, Some(side), runs);
+        line(&format!("in few groups, {side} a side"), &distorted(13), 13, Some(side), runs);
     }
 }
