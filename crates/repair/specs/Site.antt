@@ -141,9 +141,18 @@ pub record Listed (x : Index) (i count : ℕ) (w w′ : List ℕ) (s : Site) : T
   pub few : s .about ≤ x .room
   pub found : (els : List ℕ) → Slots x els w → about els w′ (x .area) (s .about) ≡ aboutGroup (tets (x .room) els) (members w i count)
 
--- what the candidates start from, for the vertex v
-pub record Started (o : Options) (x : Index) (parameters : List Float) (v : ℕ) (w w′ : List ℕ) (s : Start) : Type 0 where
-  pub same : SameTo (x .area) w w′
+-- the site s is that of a group in w, with the elements about it listed at the area's front
+pub record Sited (x : Index) (els w : List ℕ) (s : Site) : Type 0 where
+  pub vertices : s .vertices ≡ x .vertices
+  pub area : s .area ≡ x .area
+  pub few : s .about ≤ x .room
+  pub range : InRange s
+  pub rows : Rows x w (s .group) (s .count)
+  pub found : about els w (s .area) (s .about) ≡ aboutGroup (tets (x .room) els) (members w (s .group) (s .count))
+
+-- what the candidates start from, for the vertex v; the first n words of the area stay
+pub record Started (o : Options) (x : Index) (parameters : List Float) (v n : ℕ) (w w′ : List ℕ) (s : Start) : Type 0 where
+  pub same : SameTo (x .area + n) w w′
   pub original : s .original ≡ pointAt (pointsOf (x .vertices) parameters) v
   pub origin : s .origin ≡ canonical (pointAt (pointsOf (x .vertices) parameters) v) o
   pub near : s .near ≡ length (neighbours (x .vertices) (slotsIn x (x .room) w) v)

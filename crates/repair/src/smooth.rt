@@ -40,9 +40,9 @@ ghost use Rattle.mesh.specs.Group.{groups};
 ghost use Rattle.mesh.specs.Intake.{wellNumbered};
 ghost use Rattle.repair.specs.declared.answer.Answer.{Answer};
 ghost use Rattle.repair.specs.Mesh.{measure, lowestOf};
-ghost use Rattle.repair.specs.Smooth.{mean, bestFor, smoothGroup, smoothGroups, aboutGroup};
+ghost use Rattle.repair.specs.Smooth.{mean, bestFor, smoothGroup, smoothGroups};
 ghost use Rattle.repair.specs.Regions.{regionsOf};
-ghost use Rattle.repair.specs.Site.{members, stateOf, bestIn, Turned, SameTo, Ready, Slots, Rows, Listed, Started, meshFor, Grouped};
+ghost use Rattle.repair.specs.Site.{members, about, stateOf, bestIn, Turned, SameTo, Ready, Slots, Rows, Listed, Sited, Started, meshFor, Grouped};
 ghost use Rattle.repair.specs.Step.{State, Pass, step};
 
 // Lists the elements about the group whose first vertex stands at `group`, and gives where all of it stands.
@@ -68,14 +68,24 @@ fn mean_at(parameters: &[f64], nv: usize, work: &[u32], a: usize, n: usize) -> P
     mean_of(parameters, nv, &work[a..], n)
 }
 
-// What the candidates start from, for the first vertex v of a group.
-fn start_from(o: Options, parameters: &[f64], work: &mut [u32], x: Index, v: u32) -> Start
-    requires { ⌜ Ready x (now work) × (v < x .vertices) ⌝ }
-    ensures { λ r. ⌜ Started o x (now (parameters .entry)) v (now (work .entry)) (now (work .exit)) r ⌝ }
+// What the candidates start from, for the first vertex v of a group. Its neighbours are listed behind the first k words of the area.
+fn start_from(o: Options, parameters: &[f64], work: &mut [u32], x: Index, v: u32, k: usize) -> Start
+    requires { ⌜ Ready x (now work) × (v < x .vertices) × (k ≤ x .room) ⌝ }
+    ensures { λ r. ⌜ Started o x (now (parameters .entry)) v k (now (work .entry)) (now (work .exit)) r ⌝ }
 {
     let nv = x.vertices as usize;
-    let n = neighbours(work, x, v);
-    let mean = mean_at(parameters, nv, work, x.area, n);
+    let a = x.area + k;
+    let behind = Index {
+        slots: x.slots,
+        nexts: x.nexts,
+        heads: x.heads,
+        lengths: x.lengths,
+        area: a,
+        room: x.room,
+        vertices: x.vertices,
+    };
+    let n = neighbours(work, behind, v);
+    let mean = mean_at(parameters, nv, work, a, n);
     let original = vertex_point(parameters, nv, v);
     Start {
         original: original,
@@ -85,7 +95,7 @@ fn start_from(o: Options, parameters: &[f64], work: &mut [u32], x: Index, v: u32
     }
 }
 
-// The best candidate of a group whose lowest score is `lowest`.
+// The best candidate of the group of s, whose lowest score is `lowest`.
 fn best_for(
     o: Options,
     count: usize,
@@ -98,22 +108,20 @@ fn best_for(
     elements: &[u32],
     work: &mut [u32],
     x: Index,
-    group: usize,
-    size: usize,
+    s: Site,
     lowest: f64,
 ) -> Best
-    requires { ⌜ Ready x (now work) × Rows x (now work) group size × Slots x (now elements) (now work) ⌝ }
-    requires { ⌜ lowest ≡ lowestOf (measure (pointsOf (x .vertices) (now points))) (aboutGroup (tets (x .room) (now elements)) (members (now work) group size)) ⌝ }
+    requires { ⌜ Ready x (now work) × Slots x (now elements) (now work) × Sited x (now elements) (now work) s ⌝ }
+    requires { ⌜ lowest ≡ lowestOf (measure (pointsOf (s .vertices) (now points))) (about (now elements) (now work) (s .area) (s .about)) ⌝ }
     ensures { λ r. ⌜ bestIn r ≡ bestFor o (take count fields) (regionsOf listed (now (regions .entry))) (meshFor x (now (masks .entry)) (now (elements .entry)))
-        (stateOf (x .vertices) (now (parameters .entry)) (now (points .entry)) 0) (wordAt (now (work .entry)) group) (members (now (work .entry)) group size) ⌝ }
+        (stateOf (x .vertices) (now (parameters .entry)) (now (points .entry)) 0) (wordAt (now (work .entry)) (s .group)) (members (now (work .entry)) (s .group) (s .count)) ⌝ }
     ensures { λ _. ⌜ SameTo (x .area) (now (work .entry)) (now (work .exit)) ⌝ }
 {
-    let v = word(work, group);
+    let v = word(work, s.group);
     let mask = word(masks, v as usize);
     let active = active_fields(mask, fields, count);
     let m = active_count(mask, fields, count);
-    let start = start_from(o, parameters, work, x, v);
-    let s = list_about(work, x, group, size);
+    let start = start_from(o, parameters, work, x, v, s.about);
     best_candidate(
         o,
         count,
@@ -175,8 +183,7 @@ fn smooth_group(
         elements,
         work,
         x,
-        group,
-        size,
+        s,
         lowest,
     );
     if !best.found {

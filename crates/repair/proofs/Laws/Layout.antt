@@ -31,7 +31,7 @@ room-laid r = record {
 abbrev pub area-at : Index → ℕ → Index
 area-at x a = record { slots = x .slots; nexts = x .nexts; heads = x .heads; lengths = x .lengths; area = a; room = x .room; vertices = x .vertices }
 
-complete-at : (x : Index) (a : ℕ) (s : List ℕ) (k : ℕ) → Complete x s k → Complete (area-at x a) s k
+pub complete-at : (x : Index) (a : ℕ) (s : List ℕ) (k : ℕ) → Complete x s k → Complete (area-at x a) s k
 unfolding chainOf lengthOf
 complete-at x a s k c = record {
   chains = record { whole = c .chains .whole; once = c .chains .once; below = c .chains .below; apart = c .chains .apart };

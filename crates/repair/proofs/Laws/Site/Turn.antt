@@ -29,9 +29,9 @@ use Rattle.repair.specs.declared.best.Start.{Start}
 use Rattle.repair.specs.Mesh.{measure, lowestOf}
 use Rattle.repair.specs.Smooth.{State, Best, chosen, neighbours, meanCandidates, stepCandidates, moveTo, bestOf, aboutGroup, bestFor, taken, smoothGroup}
 use Rattle.repair.specs.Layout.{slotsIn}
-use Rattle.repair.specs.Site.{members, about, InRange, stateOf, Placed, newPoint, Turned, bestIn, noneYet, startList, SameTo, Ready, Slots, Rows, Listed, Started, meshFor}
+use Rattle.repair.specs.Site.{members, about, InRange, stateOf, Placed, newPoint, Turned, bestIn, noneYet, startList, SameTo, Ready, Slots, Rows, Listed, Sited, Started, meshFor}
 use Rattle.repair.proofs.Laws.Site.Best.{start-candidates, best-moved}
-use Rattle.repair.proofs.Laws.Site.Work.{ready-kept, slots-kept, group-same, group-kept}
+use Rattle.repair.proofs.Laws.Site.Work.{same-less, ready-kept, slots-kept, about-kept, group-same, group-kept}
 
 -- ---- the first vertex of a group
 
@@ -70,45 +70,47 @@ same-best : (o : Options) (F : List Field) (R : Option (List ℕ)) (ts ts′ : L
     → ts ≡ ts′ → s ≡ s′ → g ≡ g′ → p ≡ p′ → a ≡ a′ → b ≡ b′ → c ≡ c′ → bestOf o F R ts s g p a b c ≡ bestOf o F R ts′ s′ g′ p′ a′ b′ c′
 same-best o F R ts ts′ s s′ g g′ p p′ a a′ b b′ c c′ e₁ e₂ e₃ e₄ e₅ e₆ e₇ = cc
 
-module _ (o : Options) (F : List Field) (R : Option (List ℕ)) (x : Index) (masks els : List ℕ) (P Q : List Float) (i k : ℕ) (w : List ℕ)
-    (r : Ready x w) (g : Rows x w i k) (z : Slots x els w) where
-  -- of the points as they are listed in the work
-  listed-about : (w₁ w₂ : List ℕ) (s : Site) → SameTo (x .area) w w₁ → Listed x i k w₁ w₂ s
-      → (about els w₂ (s .area) (s .about) ≡ aboutGroup (tets (x .room) els) (members w i k)) × (members w₂ (s .group) (s .count) ≡ members w i k)
-  listed-about w₁ w₂ s e l =
-      let r₁ = ready-kept x w w₁ r e in
-      let g₁ = group-kept x w w₁ r e i k g in (
-        ap (λ (t : Site). about els w₂ (t .area) (s .about)) (l .site)
-            ∙ l .found els (z ∙ sym (slots-kept x w w₁ r e))
-            ∙ ap (aboutGroup (tets (x .room) els)) (group-same x w w₁ r e i k g),
-        ap (λ (t : Site). members w₂ (t .group) (t .count)) (l .site)
-            ∙ group-same x w₁ w₂ r₁ (l .same) i k g₁ ∙ group-same x w w₁ r e i k g,
-      )
+module _ (o : Options) (F : List Field) (R : Option (List ℕ)) (x : Index) (masks els : List ℕ) (P Q : List Float) (w : List ℕ) (s : Site)
+    (r : Ready x w) (z : Slots x els w) (S : Sited x els w s) where
+  -- the group, and the elements about it
+  abbrev g : List ℕ
+  g = members w (s .group) (s .count)
 
-  pub best-is : (w₁ w₂ : List ℕ) (s : Site) (st : Start) (lowest : Float) (A : List Field) (m mask : ℕ) (b : Best)
-      → Started o x P (wordAt w i) w w₁ st → Listed x i k w₁ w₂ s → mask ≡ wordAt masks (wordAt w i)
+  abbrev ts : List Tet
+  ts = aboutGroup (tets (x .room) els) g
+
+  -- they stay
+  same-about : (w₁ : List ℕ) → SameTo (x .area + s .about) w w₁ → about els w₁ (s .area) (s .about) ≡ ts
+  same-about w₁ e = let a = S .area in about-kept els (x .area + s .about) w w₁ e (s .area) (s .about) (omega arith) ∙ S .found
+
+  pub work-same : (w₁ : List ℕ) → SameTo (x .area + s .about) w w₁ → SameTo (x .area) w w₁
+  work-same w₁ e = same-less (x .area) (x .area + s .about) w w₁ (omega arith) e
+
+  pub best-is : (w₁ : List ℕ) (st : Start) (lowest : Float) (A : List Field) (m mask : ℕ) (b : Best)
+      → Started o x P (wordAt w (s .group)) (s .about) w w₁ st → mask ≡ wordAt masks (wordAt w (s .group))
       → m ≡ length (chosen mask F) → take (length (chosen mask F)) A ≡ chosen mask F
-      → lowest ≡ lowestOf (measure (pointsOf (x .vertices) Q)) (aboutGroup (tets (x .room) els) (members w i k))
-      → b ≡ bestOf o F R (about els w₂ (s .area) (s .about)) (stateOf (s .vertices) P Q 0) (members w₂ (s .group) (s .count)) (st .origin) (take m A) (noneYet lowest) (startList st o)
-      → b ≡ bestFor o F R (meshFor x masks els) (stateOf (x .vertices) P Q 0) (wordAt w i) (members w i k)
+      → lowest ≡ lowestOf (measure (pointsOf (s .vertices) Q)) (about els w (s .area) (s .about))
+      → b ≡ bestOf o F R (about els w₁ (s .area) (s .about)) (stateOf (s .vertices) P Q 0) (members w₁ (s .group) (s .count)) (st .origin) (take m A) (noneYet lowest) (startList st o)
+      → b ≡ bestFor o F R (meshFor x masks els) (stateOf (x .vertices) P Q 0) (wordAt w (s .group)) g
   unfolding bestFor
-  best-is w₁ w₂ s st lowest A m mask b S l em e₁ e₂ e₃ e₄ =
+  best-is w₁ st lowest A m mask b T em e₁ e₂ e₃ e₄ =
       let nv = x .vertices in
-      let v = wordAt w i in
-      let ts = aboutGroup (tets (x .room) els) (members w i k) in
+      let v = wordAt w (s .group) in
       let f = pointAt (pointsOf nv P) in
-      let L = listed-about w₁ w₂ s (S .same) l in
       let ns : neighbours nv (slotsIn x (x .room) w) v ≡ neighbours (length (pointsOf nv P)) (tets (x .room) els) v =
       ap₂ (λ n t. neighbours n t v) (sym (length-points nv P)) (sym z) in
-      let mk : mask ≡ getD (take nv masks) v 0 = em ∙ sym (getD-take nv masks v 0 (first-below x w i k g)) in
-      e₄ ∙ same-best o F R (about els w₂ (s .area) (s .about)) ts (stateOf (s .vertices) P Q 0) (stateOf nv P Q 0) (members w₂ (s .group) (s .count)) (members w i k)
+      let mk : mask ≡ getD (take nv masks) v 0 = em ∙ sym (getD-take nv masks v 0 (first-below x w (s .group) (s .count) (S .rows))) in
+      e₄ ∙ same-best o F R (about els w₁ (s .area) (s .about)) ts (stateOf (s .vertices) P Q 0) (stateOf nv P Q 0) (members w₁ (s .group) (s .count)) g
       (st .origin) (canonical (f v) o) (take m A) (chosen (getD (take nv masks) v 0) F) (noneYet lowest) (noneYet (lowestOf (measure (pointsOf nv Q)) ts))
       (startList st o) (meanCandidates (f v) (canonical (f v) o) (map f (neighbours (length (pointsOf nv P)) (tets (x .room) els) v)) ++ stepCandidates (canonical (f v) o) (spacing o))
-      (L .0) (ap (λ (t : Site). stateOf (t .vertices) P Q 0) (l .site)) (L .1) (S .origin)
-      (ap (λ n. take n A) e₁ ∙ e₂ ∙ ap (λ n. chosen n F) mk) (ap noneYet e₃)
-      (start-candidates o f st (f v) (canonical (f v) o) (neighbours nv (slotsIn x (x .room) w) v) (S .original) (S .origin) (S .near) (S .mean)
+      (same-about w₁ (T .same)) (ap (λ n. stateOf n P Q 0) (S .vertices)) (group-same x w w₁ r (work-same w₁ (T .same)) (s .group) (s .count) (S .rows)) (T .origin)
+      (ap (λ n. take n A) e₁ ∙ e₂ ∙ ap (λ n. chosen n F) mk)
+      (ap noneYet (e₃ ∙ ap₂ (λ n t. lowestOf (measure (pointsOf n Q)) t) (S .vertices) (S .found)))
+      (start-candidates o f st (f v) (canonical (f v) o) (neighbours nv (slotsIn x (x .room) w) v) (T .original) (T .origin) (T .near) (T .mean)
       ∙ ap (λ l. meanCandidates (f v) (canonical (f v) o) (map f l) ++ stepCandidates (canonical (f v) o) (spacing o)) ns)
 
+module _ (o : Options) (F : List Field) (R : Option (List ℕ)) (x : Index) (masks els : List ℕ) (P Q : List Float) (i k : ℕ) (w : List ℕ)
+    (r : Ready x w) (g : Rows x w i k) (z : Slots x els w) where
   -- ---- the turn
 
   -- the elements about the group, as they are
@@ -193,6 +195,22 @@ module _ (x : Index) (els : List ℕ) (i k : ℕ) (w w₁ : List ℕ) (s : Site)
       (ap (λ (t : Site). about els w₁ (t .area) (s .about)) (l .site) ∙ l .found els z
       ∙ ap (aboutGroup (tets (x .room) els)) (sym (group-same x w w₁ r (l .same) i k g)))
 
+  -- the site is that of the group
+  pub sited₁ : Sited x els w₁ s
+  sited₁ = record {
+    vertices = ap (λ (t : Site). t .vertices) (l .site);
+    area = ap (λ (t : Site). t .area) (l .site);
+    few = l .few;
+    range = listed-range x w w₁ i k s r g l;
+    rows = subst (λ (t : Site). Rows x w₁ (t .group) (t .count)) (sym (l .site)) rows₁;
+    found = ap (λ (t : Site). about els w₁ (t .area) (s .about)) (l .site) ∙ l .found els z
+        ∙ ap (aboutGroup (tets (x .room) els)) (sym (group-same x w w₁ r (l .same) i k g))
+        ∙ sym (ap (λ (t : Site). aboutGroup (tets (x .room) els) (members w₁ (t .group) (t .count))) (l .site));
+  }
+
+  pub best₁ : (f : ℕ → List ℕ → Best) (b : Best) → b ≡ f (wordAt w₁ (s .group)) (members w₁ (s .group) (s .count)) → b ≡ f (wordAt w₁ i) (members w₁ i k)
+  best₁ f b e = e ∙ ap (λ (t : Site). f (wordAt w₁ (t .group)) (members w₁ (t .group) (t .count))) (l .site)
+
   -- the turn is that of the group in w
   pub turned₁ : (f : List ℕ → State) (P Q P′ Q′ : List Float) (m : ℕ) → Turned (x .vertices) (f (members w₁ i k)) P Q P′ Q′ m → Turned (x .vertices) (f (members w i k)) P Q P′ Q′ m
   turned₁ f P Q P′ Q′ m t = subst (λ h. Turned (x .vertices) (f h) P Q P′ Q′ m) (group-same x w w₁ r (l .same) i k g) t
@@ -218,8 +236,8 @@ module _ (x : Index) (els : List ℕ) (i k : ℕ) (w w₁ : List ℕ) (s : Site)
 pub below-as : {v u n : ℕ} → v ≡ u → u < n → v < n
 below-as {v} {u} {n} e h = subst (λ j. j < n) (sym e) h
 
-pub started-as : (o : Options) (x : Index) (P : List Float) (w w₁ : List ℕ) (s : Start) {v u : ℕ} → v ≡ u → Started o x P v w w₁ s → Started o x P u w w₁ s
-started-as o x P w w₁ s e S = subst (λ j. Started o x P j w w₁ s) e S
+pub started-as : (o : Options) (x : Index) (P : List Float) (k : ℕ) (w w₁ : List ℕ) (s : Start) {v u : ℕ} → v ≡ u → Started o x P v k w w₁ s → Started o x P u k w w₁ s
+started-as o x P k w w₁ s e S = subst (λ j. Started o x P j k w w₁ s) e S
 
 -- as many active fields as were counted
 pub active-long : (A : List Field) (m : ℕ) {C : List Field} → m ≡ length C → take (length C) A ≡ C → length (take m A) ≡ m

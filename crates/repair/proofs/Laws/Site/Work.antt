@@ -4,24 +4,26 @@ use mathlib.Core.List.{List, _∷_}
 use Prim.Native.Nat.{ℕ, zero, suc, _+_, _*_, _≤_}
 use native.Mathlib.Omega.{arith}
 use lib.ListN.{length}
+use Rattle.mesh.specs.declared.element.Tet.{Tet}
 use Rattle.mesh.specs.declared.star.Index.{Index}
 use Rattle.mesh.specs.Rows.{rows}
 use Rattle.mesh.specs.Complex.{Nodup}
 use Rattle.mesh.specs.Tests.{every, under}
-use Rattle.mesh.specs.Intake.{wellNumbered}
+use Rattle.mesh.specs.Intake.{tetAt, wellNumbered}
 use Rattle.mesh.specs.Star.{Laid}
 use Rattle.mesh.proofs.Laws.Rows.{rows-same}
 use Rattle.mesh.proofs.Laws.Star.Calls.{answered-complete, answered-elements}
 use Rattle.repair.specs.Layout.{Room, slotsIn}
 use Rattle.repair.proofs.Laws.Layout.{room-laid}
-use Rattle.repair.specs.Site.{members, SameTo, Ready, Rows}
-
--- ---- the layout
+use Rattle.repair.specs.Site.{members, about, SameTo, Ready, Rows}
 
 -- ---- what stays
 
 pub same-trans : (a : ℕ) (s t u : List ℕ) → SameTo a s t → SameTo a t u → SameTo a s u
 same-trans a s t u p q = record { long = q .long ∙ p .long; before = λ j h. q .before j h ∙ p .before j h }
+
+pub same-less : (a b : ℕ) (s t : List ℕ) → a ≤ b → SameTo b s t → SameTo a s t
+same-less a b s t h e = record { long = e .long; before = λ j g. e .before j (omega arith) }
 
 module _ (x : Index) (w w′ : List ℕ) (r : Ready x w) (e : SameTo (x .area) w w′) where
   -- the slots
@@ -47,6 +49,12 @@ pub members-kept : (a : ℕ) (w w′ : List ℕ) → SameTo a w w′ → (i k : 
 unfolding members
 members-kept a w w′ e i zero h = refl
 members-kept a w w′ e i (suc k) h = ap₂ (λ (v : ℕ) (l : List ℕ). v ∷ l) (e .before i (omega arith)) (members-kept a w w′ e (i + 7) k (omega arith))
+
+-- the listed elements
+pub about-kept : (els : List ℕ) (a : ℕ) (w w′ : List ℕ) → SameTo a w w′ → (i k : ℕ) → i + k ≤ a → about els w′ i k ≡ about els w i k
+unfolding about
+about-kept els a w w′ e i zero h = refl
+about-kept els a w w′ e i (suc k) h = ap₂ (λ (u : ℕ) (l : List Tet). tetAt els u ∷ l) (e .before i (omega arith)) (about-kept els a w w′ e (i + 1) k (omega arith))
 
 module _ (x : Index) (w w′ : List ℕ) (r : Ready x w) (e : SameTo (x .area) w w′) (i k : ℕ) (g : Rows x w i k) where
   pub group-same : members w′ i k ≡ members w i k

@@ -3,8 +3,7 @@ use mathlib.Core.Path.{ap, _∙_}
 use lib.ListN.{take}
 use Rattle.mesh.specs.Words.{wordAt}
 use Rattle.repair.specs.Regions.{regionsOf}
-use Rattle.repair.proofs.Laws.Site.Work.{ready-kept, group-kept, same-trans}
-use Rattle.repair.proofs.Laws.Site.Turn.{first-below, below-as, started-as, listed-range, active-long, best-is}
+use Rattle.repair.proofs.Laws.Site.Turn.{first-below, below-as, started-as, active-long, work-same, best-is}
 use borrow.Author.Needs.{needs}
 use Rattle.repair.proofs.smooth.best_for.Statement.{statement}
 use Rattle.repair.proofs.smooth.best_for.Tie as tie
@@ -26,43 +25,27 @@ active-count-requires c κs = search needs
 
 start-from-requires : tie.Need-start-from-requires
 start-from-requires c κs = let a = (c .before .before .before .before .before .before .before .before .before .before .before .before .args) in
-    let w = a .work .now in
-    let r = c .before .before .before .before .before .before .before .before .before .before .before .before .pre .0 .0 in
-    let g = c .before .before .before .before .before .before .before .before .before .before .before .before .pre .0 .1 in
-    (r, below-as (c .before .before .before .before .word .ensures) (first-below (a .x) w (a .group) (a .size) g))
-
-list-about-requires : tie.Need-list-about-requires
-list-about-requires c κs = let a = (c .before .before .before .before .before .before .before .before .before .before .before .before .before .before .before .before .args) in
-    let w = a .work .now in
-    let r = c .before .before .before .before .before .before .before .before .before .before .before .before .before .before .before .before .pre .0 .0 in
-    let g = c .before .before .before .before .before .before .before .before .before .before .before .before .before .before .before .before .pre .0 .1 in
-    let S = started-as (a .o) (a .x) (a .parameters .now) w _ (c .before .before .before .start-from .result) (c .before .before .before .before .before .before .before .before .word .ensures) (c .before .before .before .start-from .ensures) in
-    (ready-kept (a .x) w _ r (S .same), group-kept (a .x) w _ r (S .same) (a .group) (a .size) g)
+    let S = c .before .before .before .before .before .before .before .before .before .before .before .before .pre .0 .2 in
+    (c .before .before .before .before .before .before .before .before .before .before .before .before .pre .0 .0, below-as (c .before .before .before .before .word .ensures) (first-below (a .x) (a .work .now) (a .s .group) (a .s .count) (S .rows)), S .few)
 
 best-candidate-requires : tie.Need-best-candidate-requires
-best-candidate-requires c κs = let a = (c .before .before .before .before .before .before .before .before .before .before .before .before .before .before .before .before .before .before .before .before .args) in
-    let w = a .work .now in
-    let r = c .before .before .before .before .before .before .before .before .before .before .before .before .before .before .before .before .before .before .before .before .pre .0 .0 in
-    let g = c .before .before .before .before .before .before .before .before .before .before .before .before .before .before .before .before .before .before .before .before .pre .0 .1 in
-    let S = started-as (a .o) (a .x) (a .parameters .now) w _ (c .before .before .before .before .before .before .before .start-from .result) (c .before .before .before .before .before .before .before .before .before .before .before .before .word .ensures) (c .before .before .before .before .before .before .before .start-from .ensures) in (
-      listed-range (a .x) _ _ (a .group) (a .size) (c .before .before .before .list-about .result) (ready-kept (a .x) w _ r (S .same)) (group-kept (a .x) w _ r (S .same) (a .group) (a .size) g) (c .before .before .before .list-about .ensures),
-      active-long (c .before .before .before .before .before .before .before .before .before .before .active-fields .result) (c .before .before .before .before .before .before .before .before .before .active-count .result) (c .before .before .before .before .before .before .before .before .before .active-count .ensures) (c .before .before .before .before .before .before .before .before .before .before .active-fields .ensures),
-    )
+best-candidate-requires c κs =
+    (c .before .before .before .before .before .before .before .before .before .before .before .before .before .before .before .before .pre .0 .2 .range, active-long (c .before .before .before .before .before .before .active-fields .result) (c .before .before .before .before .before .active-count .result) (c .before .before .before .before .before .active-count .ensures) (c .before .before .before .before .before .before .active-fields .ensures))
 
 same-length : tie.Need-same-length
 same-length c = search needs
 
 returns : tie.Need-returns
 returns c =
-    let a = (c .before .before .before .before .before .before .before .before .before .before .before .before .before .before .before .before .before .before .before .before .before .args) in
+    let a = (c .before .before .before .before .before .before .before .before .before .before .before .before .before .before .before .before .before .args) in
     let w = a .work .now in
-    let r = c .before .before .before .before .before .before .before .before .before .before .before .before .before .before .before .before .before .before .before .before .before .pre .0 .0 in
-    let g = c .before .before .before .before .before .before .before .before .before .before .before .before .before .before .before .before .before .before .before .before .before .pre .0 .1 in
-    let S = started-as (a .o) (a .x) (a .parameters .now) w _ (c .before .before .before .before .before .before .before .before .start-from .result) (c .before .before .before .before .before .before .before .before .before .before .before .before .before .word .ensures) (c .before .before .before .before .before .before .before .before .start-from .ensures) in (
-      best-is (a .o) (take (a .count) (a .fields)) (regionsOf (a .listed) (a .regions .now)) (a .x) (a .masks .now) (a .elements .now) (a .parameters .now) (a .points .now) (a .group) (a .size) w r g (c .before .before .before .before .before .before .before .before .before .before .before .before .before .before .before .before .before .before .before .before .before .pre .0 .2)
-          _ _ (c .before .before .before .before .list-about .result) (c .before .before .before .before .before .before .before .before .start-from .result) (a .lowest) (c .before .before .before .before .before .before .before .before .before .before .before .active-fields .result) (c .before .before .before .before .before .before .before .before .before .before .active-count .result) (c .before .before .before .before .before .before .before .before .before .before .before .before .word2 .result) _ S (c .before .before .before .before .list-about .ensures) (c .before .before .before .before .before .before .before .before .before .before .before .before .word2 .ensures ∙ ap (wordAt (a .masks .now)) (c .before .before .before .before .before .before .before .before .before .before .before .before .before .word .ensures))
-          (c .before .before .before .before .before .before .before .before .before .before .active-count .ensures) (c .before .before .before .before .before .before .before .before .before .before .before .active-fields .ensures) (c .before .before .before .before .before .before .before .before .before .before .before .before .before .before .before .before .before .before .before .before .before .pre .1) (c .best-candidate .ensures),
-      same-trans (a .x .area) w _ _ (S .same) (c .before .before .before .before .list-about .ensures .same),
+    let F = take (a .count) (a .fields) in
+    let R = regionsOf (a .listed) (a .regions .now) in
+    let T = started-as (a .o) (a .x) (a .parameters .now) (a .s .about) w _ (c .before .before .before .before .start-from .result) (c .before .before .before .before .before .before .before .before .before .word .ensures) (c .before .before .before .before .start-from .ensures) in (
+      best-is (a .o) F R (a .x) (a .masks .now) (a .elements .now) (a .parameters .now) (a .points .now) w (a .s) (c .before .before .before .before .before .before .before .before .before .before .before .before .before .before .before .before .before .pre .0 .0) (c .before .before .before .before .before .before .before .before .before .before .before .before .before .before .before .before .before .pre .0 .1) (c .before .before .before .before .before .before .before .before .before .before .before .before .before .before .before .before .before .pre .0 .2)
+          _ (c .before .before .before .before .start-from .result) (a .lowest) (c .before .before .before .before .before .before .before .active-fields .result) (c .before .before .before .before .before .before .active-count .result) (c .before .before .before .before .before .before .before .before .word2 .result) _ T
+          (c .before .before .before .before .before .before .before .before .word2 .ensures ∙ ap (wordAt (a .masks .now)) (c .before .before .before .before .before .before .before .before .before .word .ensures)) (c .before .before .before .before .before .before .active-count .ensures) (c .before .before .before .before .before .before .before .active-fields .ensures) (c .before .before .before .before .before .before .before .before .before .before .before .before .before .before .before .before .before .pre .1) (c .best-candidate .ensures),
+      work-same (a .o) F R (a .x) (a .masks .now) (a .elements .now) (a .parameters .now) (a .points .now) w (a .s) (c .before .before .before .before .before .before .before .before .before .before .before .before .before .before .before .before .before .pre .0 .0) (c .before .before .before .before .before .before .before .before .before .before .before .before .before .before .before .before .before .pre .0 .1) (c .before .before .before .before .before .before .before .before .before .before .before .before .before .before .before .before .before .pre .0 .2) _ (T .same),
     )
 
 pub best-for-spec : {M : Type 1} → statement M
@@ -75,7 +58,6 @@ best-for-spec =
     active-fields-requires
     active-count-requires
     start-from-requires
-    list-about-requires
     best-candidate-requires
     same-length
     returns)

@@ -6,11 +6,11 @@ use borrow.Author.Tests.{not-true, not-false}
 use lib.Ieee.{lt}
 use lib.ListN.{take}
 use Rattle.geometry.specs.Literals.{fifteenHundredths}
-use Rattle.repair.specs.Smooth.{smoothGroup}
+use Rattle.repair.specs.Smooth.{bestFor, smoothGroup}
 use Rattle.repair.specs.Regions.{regionsOf}
 use Rattle.repair.specs.Site.{stateOf, meshFor}
 use Rattle.repair.proofs.Laws.Site.Work.{same-trans}
-use Rattle.repair.proofs.Laws.Site.Turn.{listed-range, ready₁, rows₁, slots₁, lowest₁, turned₁, turn-fine, turn-none, turn-moved, site-once, site-vertices, site-placed}
+use Rattle.repair.proofs.Laws.Site.Turn.{listed-range, ready₁, rows₁, slots₁, lowest₁, sited₁, best₁, turned₁, turn-fine, turn-none, turn-moved, site-once, site-vertices, site-placed}
 use borrow.Author.Needs.{needs}
 use Rattle.repair.proofs.smooth.smooth_group.Statement.{statement}
 use Rattle.repair.proofs.smooth.smooth_group.Tie as tie
@@ -72,10 +72,8 @@ best-for-requires c κs =
     let s = c .before .before .before .before .before .before .before .before .before .list-about .result in
     let l = c .before .before .before .before .before .before .before .before .before .list-about .ensures in
     let r₁ = ready₁ (a .x) els i (a .size) w _ s r g z l in
-    let g₁ = rows₁ (a .x) els i (a .size) w _ s r g z l in
     let z₁ = slots₁ (a .x) els i (a .size) w _ s r g z l in
-    let q = lowest₁ (a .x) els i (a .size) w _ s r g z l (a .points .now) (c .before .before .before .before .lowest-about .result) (c .before .before .before .before .lowest-about .ensures) in
-    ((r₁, g₁, z₁), q)
+    ((r₁, z₁, sited₁ (a .x) els i (a .size) w _ s r g z l), c .before .before .before .before .lowest-about .ensures)
 
 same-length-3 : tie.Need-same-length-3
 same-length-3 c = search needs
@@ -102,7 +100,7 @@ returns-2 c =
     let g₁ = rows₁ (a .x) els i (a .size) w _ s r g z l in
     let z₁ = slots₁ (a .x) els i (a .size) w _ s r g z l in
     let q = lowest₁ (a .x) els i (a .size) w _ s r g z l (a .points .now) (c .before .before .before .before .before .before .before .before .before .lowest-about .result) (c .before .before .before .before .before .before .before .before .before .lowest-about .ensures) in
-    (turned₁ (a .x) els i (a .size) w _ s r g z l (smoothGroup (a .o) (take (a .count) (a .fields)) (regionsOf (a .listed) (a .regions .now)) (meshFor (a .x) (a .masks .now) els) (stateOf (a .x .vertices) (a .parameters .now) (a .points .now) (a .moved))) (a .parameters .now) (a .points .now) _ _ _ (turn-none (a .o) (take (a .count) (a .fields)) (regionsOf (a .listed) (a .regions .now)) (a .x) (a .masks .now) els (a .parameters .now) (a .points .now) i (a .size) _ r₁ g₁ z₁ (a .moved) (c .before .before .before .before .best-for .result) (ap (λ y. lt y fifteenHundredths) (sym q) ∙ not-false _ (c .before .before .before .before .before .before .before .before .if1 .left)) (c .before .before .before .before .best-for .ensures .0) (not-true _ (c .if2 .taken))), (same-trans (a .x .area) w _ _ (l .same) (c .before .before .before .before .best-for .ensures .1), omega arith))
+    (turned₁ (a .x) els i (a .size) w _ s r g z l (smoothGroup (a .o) (take (a .count) (a .fields)) (regionsOf (a .listed) (a .regions .now)) (meshFor (a .x) (a .masks .now) els) (stateOf (a .x .vertices) (a .parameters .now) (a .points .now) (a .moved))) (a .parameters .now) (a .points .now) _ _ _ (turn-none (a .o) (take (a .count) (a .fields)) (regionsOf (a .listed) (a .regions .now)) (a .x) (a .masks .now) els (a .parameters .now) (a .points .now) i (a .size) _ r₁ g₁ z₁ (a .moved) (c .before .before .before .before .best-for .result) (ap (λ y. lt y fifteenHundredths) (sym q) ∙ not-false _ (c .before .before .before .before .before .before .before .before .if1 .left)) (best₁ (a .x) els i (a .size) w _ s r g z l (bestFor (a .o) (take (a .count) (a .fields)) (regionsOf (a .listed) (a .regions .now)) (meshFor (a .x) (a .masks .now) els) (stateOf (a .x .vertices) (a .parameters .now) (a .points .now) 0)) _ (c .before .before .before .before .best-for .ensures .0)) (not-true _ (c .if2 .taken))), (same-trans (a .x .area) w _ _ (l .same) (c .before .before .before .before .best-for .ensures .1), omega arith))
 
 move-group-requires : tie.Need-move-group-requires
 move-group-requires c κs =
@@ -149,7 +147,7 @@ returns-3 c =
     let q = lowest₁ (a .x) els i (a .size) w _ s r g z l (a .points .now) (c .before .before .before .before .before .before .before .before .before .before .before .before .before .before .before .before .before .before .lowest-about .result) (c .before .before .before .before .before .before .before .before .before .before .before .before .before .before .before .before .before .before .lowest-about .ensures) in
     let e = c .before .before .before .before .before .before .before .before .before .before .before .before .before .best-for .ensures .1 in
     let p = site-placed (a .x) els i (a .size) w _ s r g z l _ e (a .o) (c .before .before .before .before .before .before .before .before .before .before .before .before .before .best-for .result .point) (a .parameters .now) in (
-      turned₁ (a .x) els i (a .size) w _ s r g z l (smoothGroup (a .o) (take (a .count) (a .fields)) (regionsOf (a .listed) (a .regions .now)) (meshFor (a .x) (a .masks .now) els) (stateOf (a .x .vertices) (a .parameters .now) (a .points .now) (a .moved))) (a .parameters .now) (a .points .now) _ _ _ (turn-moved (a .o) (take (a .count) (a .fields)) (regionsOf (a .listed) (a .regions .now)) (a .x) (a .masks .now) els (a .parameters .now) (a .points .now) i (a .size) _ r₁ g₁ z₁ (a .moved) (c .before .before .before .before .before .before .before .before .before .before .before .before .before .best-for .result) _ _ _ (ap (λ y. lt y fifteenHundredths) (sym q) ∙ not-false _ (c .before .before .before .before .before .before .before .before .before .before .before .before .before .before .before .before .before .if1 .left)) (c .before .before .before .before .before .before .before .before .before .before .before .before .before .best-for .ensures .0) (not-false _ (c .before .before .before .before .before .before .before .before .before .if2 .left))
+      turned₁ (a .x) els i (a .size) w _ s r g z l (smoothGroup (a .o) (take (a .count) (a .fields)) (regionsOf (a .listed) (a .regions .now)) (meshFor (a .x) (a .masks .now) els) (stateOf (a .x .vertices) (a .parameters .now) (a .points .now) (a .moved))) (a .parameters .now) (a .points .now) _ _ _ (turn-moved (a .o) (take (a .count) (a .fields)) (regionsOf (a .listed) (a .regions .now)) (a .x) (a .masks .now) els (a .parameters .now) (a .points .now) i (a .size) _ r₁ g₁ z₁ (a .moved) (c .before .before .before .before .before .before .before .before .before .before .before .before .before .best-for .result) _ _ _ (ap (λ y. lt y fifteenHundredths) (sym q) ∙ not-false _ (c .before .before .before .before .before .before .before .before .before .before .before .before .before .before .before .before .before .if1 .left)) (best₁ (a .x) els i (a .size) w _ s r g z l (bestFor (a .o) (take (a .count) (a .fields)) (regionsOf (a .listed) (a .regions .now)) (meshFor (a .x) (a .masks .now) els) (stateOf (a .x .vertices) (a .parameters .now) (a .points .now) 0)) _ (c .before .before .before .before .before .before .before .before .before .before .before .before .before .best-for .ensures .0)) (not-false _ (c .before .before .before .before .before .before .before .before .before .if2 .left))
           (p (a .parameters .now) _ (c .before .before .before .before .move-group .ensures .0)) (p (a .points .now) _ (c .before .before .before .before .move-group .ensures .1)) refl),
       (same-trans (a .x .area) w _ _ (l .same) e, omega arith),
     )
