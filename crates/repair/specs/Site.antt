@@ -117,9 +117,15 @@ pub record SameTo (a : ℕ) (s t : List ℕ) : Type 0 where
   pub long : length t ≡ length s
   pub before : (j : ℕ) → j < a → wordAt t j ≡ wordAt s j
 
--- the work is laid out, and the elements in its slots are indexed
+-- how many words of the work are used for nv vertices and n elements: 12 nv + 32 n up to the area, there n for a list of elements, and
+-- behind it 32 n for one of neighbours with its scratch; 14 nv while the groups are sorted
+abbrev pub usedWords : ℕ → ℕ → ℕ
+usedWords nv n = 14 * nv + 65 * n
+
+-- the work is laid out as for `improve`, in the words that are used, and the elements in its slots are indexed
 pub record Ready (x : Index) (w : List ℕ) : Type 0 where
-  pub room : Room x (x .room) (length w)
+  pub room : Room x (x .room) (256 * x .room + 32 * x .vertices + 1024)
+  pub long : usedWords (x .vertices) (x .room) ≤ length w
   pub index : Complete x w (4 * x .room)
   pub proper : every (wellNumbered (x .vertices)) (slotsIn x (x .room) w) ≡ true
 
@@ -158,9 +164,12 @@ pub record Started (o : Options) (x : Index) (parameters : List Float) (v n : �
   pub near : s .near ≡ length (neighbours (x .vertices) (slotsIn x (x .room) w) v)
   pub mean : s .mean ≡ mean (map (pointAt (pointsOf (x .vertices) parameters)) (neighbours (x .vertices) (slotsIn x (x .room) w) v))
 
--- what `smooth` reads of the mesh besides the state: masks and elements
+-- what `smooth` reads of the mesh besides the state: the masks of nv vertices and n elements; those of an index
+abbrev pub meshRead : ℕ → ℕ → List ℕ → List ℕ → Mesh
+meshRead nv n masks els = record { parameters = []; points = []; masks = take nv masks; elements = tets n els; surface = [] }
+
 abbrev pub meshFor : Index → List ℕ → List ℕ → Mesh
-meshFor x masks els = record { parameters = []; points = []; masks = take (x .vertices) masks; elements = tets (x .room) els; surface = [] }
+meshFor x masks els = meshRead (x .vertices) (x .room) masks els
 
 -- the rows of the groups, sorted
 abbrev pub Grouped : Options → Index → List Float → List ℕ → Type 0

@@ -1,5 +1,5 @@
 // `smooth`: groups of vertices of equal rank, in rank order, moved to the best of nine candidates. The work is laid out as for `improve`
-// (layout.rt), without flags, pairs and edges; the floats are not used.
+// (layout.rt), without flags, pairs and edges, and only its front is used (used_words); the floats are not used.
 use crate::answer::Answer;
 use crate::best::Best;
 use crate::best::Start;
@@ -42,7 +42,7 @@ ghost use Rattle.repair.specs.declared.answer.Answer.{Answer};
 ghost use Rattle.repair.specs.Mesh.{measure, lowestOf};
 ghost use Rattle.repair.specs.Smooth.{mean, bestFor, smoothGroup, smoothGroups};
 ghost use Rattle.repair.specs.Regions.{regionsOf};
-ghost use Rattle.repair.specs.Site.{members, about, stateOf, bestIn, Turned, SameTo, Ready, Slots, Rows, Listed, Sited, Started, meshFor, Grouped};
+ghost use Rattle.repair.specs.Site.{members, about, stateOf, bestIn, Turned, SameTo, Ready, Slots, Rows, Listed, Sited, Started, usedWords, meshRead, meshFor, Grouped};
 ghost use Rattle.repair.specs.Step.{State, Pass, step};
 
 // Lists the elements about the group whose first vertex stands at `group`, and gives where all of it stands.
@@ -248,7 +248,7 @@ fn prepare(
     elements: &[u32],
     work: &mut [u32],
 ) -> Index
-    requires { ⌜ (sizes .vertices ≤ 4096) × (sizes .elements ≤ 16384) × (256 * sizes .elements + 32 * sizes .vertices + 1024 ≤ length (now work)) ⌝ }
+    requires { ⌜ (sizes .vertices ≤ 4096) × (sizes .elements ≤ 16384) × (usedWords (sizes .vertices) (sizes .elements) ≤ length (now work)) ⌝ }
     requires { ⌜ (4 * sizes .elements ≤ length (now elements)) × (every (wellNumbered (sizes .vertices)) (tets (sizes .elements) (now elements)) ≡ true) ⌝ }
     ensures { λ r. ⌜ (r .vertices ≡ sizes .vertices) × (r .room ≡ sizes .elements) × Ready r (now (work .exit)) ⌝ }
     ensures { λ r. ⌜ Slots r (now (elements .entry)) (now (work .exit)) × Grouped o r (now (parameters .entry)) (now (work .exit)) ⌝ }
@@ -259,6 +259,54 @@ fn prepare(
     copy_into(elements, 0, work, x.slots, 4 * sizes.elements);
     build(work, x, n);
     x
+}
+
+// How many words of the work are used.
+fn used_words(sizes: Sizes) -> usize
+    requires { ⌜ (sizes .vertices ≤ 4096) × (sizes .elements ≤ 16384) ⌝ }
+    ensures { λ r. ⌜ r ≡ usedWords (sizes .vertices) (sizes .elements) ⌝ }
+{
+    14 * sizes.vertices + 65 * sizes.elements
+}
+
+// Smooths every group, in the words that are used, and gives how many vertices have moved. The words are all zeros afterwards.
+fn smooth_in(
+    o: Options,
+    sizes: Sizes,
+    count: usize,
+    fields: [Field; 8],
+    listed: bool,
+    regions: &[u32],
+    parameters: &mut [f64],
+    points: &mut [f64],
+    masks: &[u32],
+    elements: &[u32],
+    work: &mut [u32],
+) -> usize
+    requires { ⌜ (sizes .vertices ≤ 4096) × (sizes .elements ≤ 16384) × (usedWords (sizes .vertices) (sizes .elements) ≤ length (now work)) ⌝ }
+    requires { ⌜ (4 * sizes .elements ≤ length (now elements)) × (every (wellNumbered (sizes .vertices)) (tets (sizes .elements) (now elements)) ≡ true) ⌝ }
+    requires { ⌜ (3 * sizes .vertices ≤ length (now parameters)) × (3 * sizes .vertices ≤ length (now points)) ⌝ }
+    ensures { λ r. ⌜ Turned (sizes .vertices) (smoothGroups o (take count fields) (regionsOf listed (now (regions .entry))) (meshRead (sizes .vertices) (sizes .elements) (now (masks .entry)) (now (elements .entry)))
+        (stateOf (sizes .vertices) (now (parameters .entry)) (now (points .entry)) 0) (groups o (pointsOf (sizes .vertices) (now (parameters .entry)))))
+        (now (parameters .entry)) (now (points .entry)) (now (parameters .exit)) (now (points .exit)) r ⌝ }
+    ensures { λ _. ⌜ now (work .exit) ≡ zeroWords (length (now (work .entry))) ⌝ }
+{
+    let x = prepare(o, sizes, parameters, elements, work);
+    let moved = smooth_groups(
+        o,
+        count,
+        fields,
+        listed,
+        regions,
+        parameters,
+        points,
+        masks,
+        elements,
+        work,
+        x,
+    );
+    clear(work);
+    moved
 }
 
 // Moves vertices of badly shaped elements; the count is that of the vertices moved. Both work slices are all zeros afterwards.
@@ -300,9 +348,10 @@ pub fn smooth(
     if number != 0 {
         return Answer::Refused(number);
     }
-    let x = prepare(o, sizes, parameters, elements, work);
-    let moved = smooth_groups(
+    let e = used_words(sizes);
+    let moved = smooth_in(
         o,
+        sizes,
         count as usize,
         fields,
         listed,
@@ -311,10 +360,8 @@ pub fn smooth(
         points,
         masks,
         elements,
-        work,
-        x,
+        &mut work[0..e],
     );
-    clear(work);
     Answer::Done {
         count: moved,
         sizes: sizes,

@@ -30,7 +30,7 @@ use Rattle.repair.specs.Smooth.{aboutGroup}
 use Rattle.repair.specs.Layout.{slotsIn}
 use Rattle.repair.specs.Site.{members, about, Ready, Slots, Rows, Listed}
 use Rattle.repair.proofs.Laws.Site.Near.{under-mem}
-use Rattle.repair.proofs.Laws.Layout.{room-laid}
+use Rattle.repair.proofs.Laws.Site.Work.{ready-laid}
 
 -- ---- the same in both crates' words
 
@@ -80,17 +80,17 @@ module _ (x : Index) (w : List ℕ) (i k : ℕ) (r : Ready x w) (g : Rows x w i 
 
   fit : x .area + (entriesOf x w vs + entriesOf x w vs) ≤ length w
   fit =
-      let a = r .room .area in let b = r .room .lengths in let c = r .room .heads in let d = r .room .nexts in let f = r .room .slots in let l = r .room .long in
+      let a = r .room .area in let b = r .room .lengths in let c = r .room .heads in let d = r .room .nexts in let f = r .room .slots in let l = r .long in
       let e = entries-few x w (4 * x .room) (r .index .chains) vs (subst (λ l. Nodup l) (sym vs-is) (g .once)) in
       omega (arith, a, b, c, d, f, l, e)
 
   count : length (aboutList x w i k 7) ≡ length (starAll vs ts)
   unfolding vs
-  count = about-count x w (x .room) (room-laid (r .room)) (r .index) i k 7 stand below fit
+  count = about-count x w (x .room) (ready-laid x w r) (r .index) i k 7 stand below fit
 
   answered : Answered w (aboutIn x w i k 7) (x .area) (starAll vs ts)
   unfolding vs
-  answered = about-answered x w (x .room) (room-laid (r .room)) (r .index) i k 7 stand below fit
+  answered = about-answered x w (x .room) (ready-laid x w r) (r .index) i k 7 stand below fit
 
   -- no more than there are elements
   star-few : length (starAll vs ts) ≤ x .room
@@ -110,7 +110,7 @@ module _ (x : Index) (w : List ℕ) (i k : ℕ) (r : Ready x w) (g : Rows x w i 
   listed-is w′ n s e f q =
       let A : Answered w w′ (x .area) (starAll vs ts) = subst (λ u. Answered w u (x .area) (starAll vs ts)) (sym f) answered in
       let m : s .about ≡ length (starAll vs ts) = ap (λ (t : Site). t .about) q ∙ e ∙ count in
-      let a = r .room .area in let b = r .room .lengths in let c = r .room .heads in let d = r .room .nexts in let h = r .room .slots in let l = r .room .long in
+      let a = r .room .area in let b = r .room .lengths in let c = r .room .heads in let d = r .room .nexts in let h = r .room .slots in let l = r .long in
       let o : x .area + s .about ≤ length w′ = omega (arith, a, b, c, d, h, l, m, star-few, A .long) in
       record {
         same = record { long = A .long; before = A .below };

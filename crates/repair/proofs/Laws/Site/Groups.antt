@@ -166,7 +166,7 @@ module _ (o : Options) (F : List Field) (R : Option (List ℕ)) (x : Index) (mas
 
   module _ (w : List ℕ) (first moved : ℕ) (P Q : List Float) (r : Ready x w) (G : Going w first moved P Q) (h : first < x .vertices) where
     long-enough : 7 * x .vertices ≤ length w
-    long-enough = let l = r .room .long in omega arith
+    long-enough = let l = r .long in omega arith
 
     -- the next run is a group
     pub next-rows : (c : ℕ) → c ≡ runLength first (x .vertices) 7 6 w → Rows x w (7 * first + 6) c

@@ -4,7 +4,7 @@ use mathlib.Core.Logic.{_≢_}
 use mathlib.Core.Bool.{true, cond}
 use mathlib.Core.List.{List, [], _∷_, _++_}
 use mathlib.Core.Option.{Option, none, some}
-use Prim.Native.Nat.{ℕ, zero, suc, _+_, _*_, _≤_}
+use Prim.Native.Nat.{ℕ, zero, suc, _+_, _-_, _*_, _≤_}
 use native.Mathlib.Omega.{arith}
 use borrow.Author.Tests.{ne-eqb}
 use lib.Dec.{eqb}
@@ -17,12 +17,13 @@ use Rattle.geometry.specs.declared.field.Field.{Field}
 use Rattle.geometry.specs.Literals.{fifteenHundredths}
 use Rattle.mesh.specs.declared.intake.Sizes.{Sizes}
 use Rattle.mesh.specs.declared.star.Index.{Index}
-use Rattle.mesh.specs.Words.{pointsOf}
+use Rattle.mesh.specs.Words.{pointsOf, zeroWords}
 use Rattle.mesh.specs.Tests.{every}
 use Rattle.mesh.specs.Element.{tets}
 use Rattle.mesh.specs.Group.{groups}
 use Rattle.mesh.specs.Intake.{wellNumbered, givenOf, intake}
 use Rattle.mesh.proofs.Laws.Intake.Reads.{length-tets, length-points}
+use Rattle.mesh.proofs.Laws.Intake.Table.{zeros-again}
 use Rattle.repair.specs.declared.answer.Answer.{Answer}
 use Rattle.repair.specs.declared.answer.Answer.the-variants.{Done, Refused}
 use Rattle.repair.specs.Mesh.{Mesh, made, refused, measure, lowestOf}
@@ -30,7 +31,7 @@ use Rattle.repair.specs.Smooth as Smooth
 use Rattle.repair.specs.Smooth.{aboutGroup, bestFor, taken, smoothGroup, smoothGroups}
 use Rattle.repair.specs.Step as Step
 use Rattle.repair.specs.Step.{Call, Pass, triplesOf, meshOf, floatsOf, elementWords, tripleWords, over, committed, given, lengthsOf, resultOf, step}
-use Rattle.repair.specs.Site.{stateOf, Turned, meshFor}
+use Rattle.repair.specs.Site.{stateOf, Turned, meshRead, meshFor}
 use Rattle.repair.proofs.Laws.Improve.Intake.{Passed, intake-passed}
 use Rattle.repair.proofs.Laws.Lengths.{LongEnough, long-enough}
 
@@ -101,6 +102,27 @@ module _ (o : Options) (F : List Field) (R : Option (List ℕ)) (m : Mesh) where
   groups-only s [] = refl
   groups-only s (g ∷ gs) = groups-only (smoothGroup o F R m s g) gs ∙ ap (λ u. smoothGroups o F R (only m) u gs) (group-only s g)
 
+-- ---- the pass in the words that are used
+
+-- the turn by the numbers of the call
+pub turned-as : (o : Options) (F : List Field) (R : Option (List ℕ)) (x : Index) (nv n : ℕ) (masks els : List ℕ) (P Q P′ Q′ : List Float) (moved : ℕ) → x .vertices ≡ nv → x .room ≡ n
+    → Turned (x .vertices) (smoothGroups o F R (meshFor x masks els) (stateOf (x .vertices) P Q 0) (groups o (pointsOf (x .vertices) P))) P Q P′ Q′ moved
+    → Turned nv (smoothGroups o F R (meshRead nv n masks els) (stateOf nv P Q 0) (groups o (pointsOf nv P))) P Q P′ Q′ moved
+turned-as o F R x nv n masks els P Q P′ Q′ moved ev en T =
+    subst₂ (λ v k. Turned v (smoothGroups o F R (meshRead v k masks els) (stateOf v P Q 0) (groups o (pointsOf v P))) P Q P′ Q′ moved) ev en T
+
+-- the words that are used, as they are lent
+pub part-long : (e : ℕ) (w : List ℕ) → e ≤ length w → length (take (e - 0) (drop 0 w)) ≡ e
+part-long e w h = ap (λ j. length (take j w)) (let o : e - 0 ≡ e = omega arith in o) ∙ length-take-le e w h
+
+-- zeros put back into zeros
+pub work-zeros : (e m : ℕ) (w p : List ℕ) → e ≤ length w → length w ≡ m → w ≡ zeroWords m → p ≡ zeroWords (length (take (e - 0) (drop 0 w)))
+    → take 0 w ++ (p ++ drop (e - 0) (drop 0 w)) ≡ zeroWords m
+work-zeros e m w p h l z q =
+    zeros-again e w (p ++ drop (e - 0) w) h (z ∙ ap zeroWords (sym l))
+    (ap₂ (λ (u v : List ℕ). u ++ v) (q ∙ ap zeroWords (part-long e w h)) (ap (λ j. drop j w) (let o : e - 0 ≡ e = omega arith in o)))
+    ∙ ap zeroWords l
+
 -- ---- the call
 
 module _ (sizes : Sizes) (o : Options) (count : ℕ) (fields : List Field) (R : Option (List ℕ)) (P Q : List Float) (masks els surface work : List ℕ) (floats : List Float) where
@@ -149,8 +171,9 @@ module _ (sizes : Sizes) (o : Options) (count : ℕ) (fields : List Field) (R : 
       numbered = passed .numbered
 
       -- all groups had their turn
-      module _ (x : Index) (ev : x .vertices ≡ sizes .vertices) (en : x .room ≡ sizes .elements) (P′ Q′ : List Float) (moved : ℕ)
-          (T : Turned (x .vertices) (smoothGroups o (take count fields) R (meshFor x masks els) (stateOf (x .vertices) P Q 0) (groups o (pointsOf (x .vertices) P))) P Q P′ Q′ moved) where
+      module _ (P′ Q′ : List Float) (moved : ℕ)
+          (T : Turned (sizes .vertices) (smoothGroups o (take count fields) R (meshRead (sizes .vertices) (sizes .elements) masks els) (stateOf (sizes .vertices) P Q 0)
+          (groups o (pointsOf (sizes .vertices) P))) P Q P′ Q′ moved) where
         nv : ℕ
         nv = sizes .vertices
 
@@ -160,14 +183,12 @@ module _ (sizes : Sizes) (o : Options) (count : ℕ) (fields : List Field) (R : 
         F : List Field
         F = take count fields
 
-        -- the same turn by the call's numbers
+        -- the same turn of the whole mesh
         T′ : Turned nv (smoothGroups o F R m (stateOf nv P Q 0) (groups o (pointsOf nv P))) P Q P′ Q′ moved
         unfolding nv m F meshOf
         T′ =
             subst (λ (u : Smooth.State). Turned (sizes .vertices) u P Q P′ Q′ moved)
-            (sym (groups-only o (take count fields) R (meshOf (buffers P Q)) (stateOf (sizes .vertices) P Q 0) (groups o (pointsOf (sizes .vertices) P))))
-            (subst₂ (λ v n. Turned v (smoothGroups o (take count fields) R
-            (record { parameters = []; points = []; masks = take v masks; elements = tets n els; surface = [] }) (stateOf v P Q 0) (groups o (pointsOf v P))) P Q P′ Q′ moved) ev en T)
+            (sym (groups-only o (take count fields) R (meshOf (buffers P Q)) (stateOf (sizes .vertices) P Q 0) (groups o (pointsOf (sizes .vertices) P)))) T
 
         -- what the pass makes
         result : Mesh

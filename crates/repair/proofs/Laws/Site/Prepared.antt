@@ -27,10 +27,11 @@ use Rattle.mesh.proofs.Laws.Group.Area.{grouped-rows}
 use Rattle.mesh.proofs.Laws.Star.Hanging.{length-built, built-outside, built-complete}
 use Rattle.mesh.proofs.Laws.Star.Calls.{tets-same}
 use Rattle.repair.specs.Layout.{Room}
-use Rattle.repair.specs.Site.{Ready, Slots, Grouped}
-use Rattle.repair.proofs.Laws.Layout.{room-laid}
+use Rattle.repair.specs.Site.{usedWords, Ready, Slots, Grouped}
+use Rattle.repair.proofs.Laws.Site.Work.{used-laid}
 
-module _ (o : Options) (x : Index) (P : List Float) (els w₀ w₁ w₂ w₃ : List ℕ) (R : Room x (x .room) (length w₀)) (long : 4 * x .room ≤ length els)
+module _ (o : Options) (x : Index) (P : List Float) (els w₀ w₁ w₂ w₃ : List ℕ) (R : Room x (x .room) (256 * x .room + 32 * x .vertices + 1024))
+    (fits : usedWords (x .vertices) (x .room) ≤ length w₀) (long : 4 * x .room ≤ length els)
     (long₁ : length w₁ ≡ length w₀) (e₁ : w₁ ≡ groupedArea o (pointsOf (x .vertices) P) w₀)
     (e₂ : w₂ ≡ copied els 0 w₁ (x .slots) (4 * x .room)) (e₃ : w₃ ≡ built x (x .room) w₂) where
   -- the groups
@@ -39,16 +40,15 @@ module _ (o : Options) (x : Index) (P : List Float) (els w₀ w₁ w₂ w₃ : L
   groups-first =
       let l = length-points (x .vertices) P in
       let a = R .few in
-      let b = R .long in
       ap (rows 7 (x .vertices)) e₁
       ∙ ap (λ (k : ℕ). rows 7 k (groupedArea o (pointsOf (x .vertices) P) w₀)) (sym l)
       ∙ grouped-rows o (pointsOf (x .vertices) P) w₀
       (and-intro (leb (length (pointsOf (x .vertices) P)) 65536) (leb (14 * length (pointsOf (x .vertices) P)) (length w₀))
-      (le-leb (length (pointsOf (x .vertices) P)) 65536 (omega (arith, l, a))) (le-leb (14 * length (pointsOf (x .vertices) P)) (length w₀) (omega (arith, l, b))))
+      (le-leb (length (pointsOf (x .vertices) P)) 65536 (omega (arith, l, a))) (le-leb (14 * length (pointsOf (x .vertices) P)) (length w₀) (omega (arith, l, fits))))
 
   -- the elements behind them
   slots-end : x .slots + 4 * x .room ≤ length w₁
-  slots-end = let a = R .slots in let b = R .long in omega (arith, a, b, long₁)
+  slots-end = let a = R .slots in omega (arith, a, fits, long₁)
 
   copied-is : w₂ ≡ paste w₁ (x .slots) els (4 * x .room)
   unfolding copied inside
@@ -82,7 +82,7 @@ module _ (o : Options) (x : Index) (P : List Float) (els w₀ w₁ w₂ w₃ : L
 
   -- the index
   laid₂ : Laid x (length w₂)
-  laid₂ = subst (Laid x) (sym long₂) (room-laid R)
+  laid₂ = subst (Laid x) (sym long₂) (used-laid x (256 * x .room + 32 * x .vertices + 1024) (length w₀) R fits)
 
   pub long₃ : length w₃ ≡ length w₀
   long₃ = ap length e₃ ∙ length-built x (x .room) w₂ laid₂ (omega arith) ∙ long₂
@@ -103,25 +103,28 @@ module _ (o : Options) (x : Index) (P : List Float) (els w₀ w₁ w₂ w₃ : L
 
   pub work-ready : every (wellNumbered (x .vertices)) (tets (x .room) els) ≡ true → Ready x w₃
   work-ready h = record {
-    room = subst (Room x (x .room)) (sym long₃) R;
+    room = R;
+    long = omega (arith, fits, long₃);
     index = subst (λ l. Complete x l (4 * x .room)) (sym e₃) (built-complete x (x .room) w₂ laid₂ (omega arith));
     proper = ap (every (wellNumbered (x .vertices))) (sym slots-ready) ∙ h;
   }
 
 -- all of it, with the numbers as the code has them
 pub prepared-is : (o : Options) (x : Index) (P : List Float) (els w₀ w₁ w₂ w₃ : List ℕ) (nv n : ℕ) → x .vertices ≡ nv → ((m : ℕ) → 256 * n + 32 * nv + 1024 ≤ m → Room x n m)
-    → 256 * n + 32 * nv + 1024 ≤ length w₀ → 4 * n ≤ length els → every (wellNumbered nv) (tets n els) ≡ true → length w₁ ≡ length w₀
+    → usedWords nv n ≤ length w₀ → 4 * n ≤ length els → every (wellNumbered nv) (tets n els) ≡ true → length w₁ ≡ length w₀
     → w₁ ≡ groupedArea o (pointsOf nv P) w₀ → w₂ ≡ copied els 0 w₁ (x .slots) (4 * n) → w₃ ≡ built x n w₂
     → ((x .vertices ≡ nv) × (x .room ≡ n) × Ready x w₃) × (Slots x els w₃ × Grouped o x P w₃)
 prepared-is o x P els w₀ w₁ w₂ w₃ nv n ev room long few proper long₁ e₁ e₂ e₃ =
-    let r = room (length w₀) long in
-    let en = r .room in
-    let R : Room x (x .room) (length w₀) = subst (λ k. Room x k (length w₀)) (sym en) r in
+    let en = room (256 * n + 32 * nv + 1024) (omega arith) .room in
+    let s : 256 * n + 32 * nv + 1024 ≤ 256 * x .room + 32 * x .vertices + 1024 = omega (arith, ev, en) in
+    let R : Room x (x .room) (256 * x .room + 32 * x .vertices + 1024) =
+    subst (λ k. Room x k (256 * x .room + 32 * x .vertices + 1024)) (sym en) (room (256 * x .room + 32 * x .vertices + 1024) s) in
+    let t : usedWords (x .vertices) (x .room) ≤ length w₀ = omega (arith, long, ev, en) in
     let f₁ : w₁ ≡ groupedArea o (pointsOf (x .vertices) P) w₀ = e₁ ∙ ap (λ k. groupedArea o (pointsOf k P) w₀) (sym ev) in
     let f₂ : w₂ ≡ copied els 0 w₁ (x .slots) (4 * x .room) = e₂ ∙ ap (λ k. copied els 0 w₁ (x .slots) (4 * k)) (sym en) in
     let f₃ : w₃ ≡ built x (x .room) w₂ = e₃ ∙ ap (λ k. built x k w₂) (sym en) in
     let l : 4 * x .room ≤ length els = omega (arith, few, en) in
     let p : every (wellNumbered (x .vertices)) (tets (x .room) els) ≡ true = ap₂ (λ k m. every (wellNumbered k) (tets m els)) ev en ∙ proper in (
-      (ev, en, work-ready o x P els w₀ w₁ w₂ w₃ R l long₁ f₁ f₂ f₃ p),
-      (slots-ready o x P els w₀ w₁ w₂ w₃ R l long₁ f₁ f₂ f₃, groups-ready o x P els w₀ w₁ w₂ w₃ R l long₁ f₁ f₂ f₃),
+      (ev, en, work-ready o x P els w₀ w₁ w₂ w₃ R t l long₁ f₁ f₂ f₃ p),
+      (slots-ready o x P els w₀ w₁ w₂ w₃ R t l long₁ f₁ f₂ f₃, groups-ready o x P els w₀ w₁ w₂ w₃ R t l long₁ f₁ f₂ f₃),
     )

@@ -14,28 +14,30 @@ use Rattle.mesh.specs.Words.{pointAt, pointsOf}
 use Rattle.mesh.specs.Star.{Laid, Complete, neighboursOf, neighbourList, neighboured}
 use Rattle.mesh.proofs.Laws.Star.Calls.{Answered, neighbours-count, neighbours-answered}
 use Rattle.repair.specs.declared.best.Start.{Start}
-use Rattle.repair.specs.Layout.{Room, slotsIn}
+use Rattle.repair.specs.Layout.{slotsIn}
 use Rattle.repair.specs.Smooth.{neighbours, mean}
 use Rattle.repair.specs.Site.{Ready, Started}
 use Rattle.repair.proofs.Laws.Site.Near.{near-is, near-most}
-use Rattle.repair.proofs.Laws.Layout.{room-laid, area-at, complete-at}
+use Rattle.repair.proofs.Laws.Site.Work.{ready-laid}
+use Rattle.repair.proofs.Laws.Layout.{area-at, complete-at}
 
 -- the area has room for a list of all elements, and behind it for the neighbours and their scratch
-near-fits : (x : Index) (m : ℕ) → Room x (x .room) m → x .area + x .room + (16 * x .room + 16 * x .room) ≤ m
-near-fits x m r =
-    let a = r .area in let b = r .lengths in let c = r .heads in let d = r .nexts in let e = r .slots in let f = r .long in omega arith
+near-fits : (x : Index) (w : List ℕ) → Ready x w → x .area + x .room + (16 * x .room + 16 * x .room) ≤ length w
+near-fits x w r =
+    let a = r .room .area in let b = r .room .lengths in let c = r .room .heads in let d = r .room .nexts in let e = r .room .slots in let f = r .long in
+    omega (arith, a, b, c, d, e, f)
 
 module _ (x : Index) (k : ℕ) (w : List ℕ) (r : Ready x w) (few : k ≤ x .room) where
   -- an area behind k words begins inside the work
   pub area-inside : x .area + k ≤ length w
-  area-inside = let h = near-fits x (length w) (r .room) in omega arith
+  area-inside = let h = near-fits x w r in omega arith
 
   behind-fits : x .area + k + (16 * x .room + 16 * x .room) ≤ length w
-  behind-fits = let h = near-fits x (length w) (r .room) in omega arith
+  behind-fits = let h = near-fits x w r in omega arith
 
   behind-laid : Laid (area-at x (x .area + k)) (length w)
   behind-laid =
-      let l = room-laid (r .room) in let a = l .area in let i = area-inside in
+      let l = ready-laid x w r in let a = l .area in let i = area-inside in
       record { few = l .few; nexts = l .nexts; heads = l .heads; lengths = l .lengths; area = omega arith; end = i }
 
   behind-complete : Complete (area-at x (x .area + k)) w (4 * x .room)

@@ -15,7 +15,17 @@ use Rattle.mesh.proofs.Laws.Rows.{rows-same}
 use Rattle.mesh.proofs.Laws.Star.Calls.{answered-complete, answered-elements}
 use Rattle.repair.specs.Layout.{Room, slotsIn}
 use Rattle.repair.proofs.Laws.Layout.{room-laid}
-use Rattle.repair.specs.Site.{members, about, SameTo, Ready, Rows}
+use Rattle.repair.specs.Site.{members, about, SameTo, usedWords, Ready, Rows}
+
+-- the areas of the index lie inside the words that are used
+pub used-laid : (x : Index) (k m : ℕ) → Room x (x .room) k → usedWords (x .vertices) (x .room) ≤ m → Laid x m
+used-laid x k m r h =
+    let l = room-laid r in
+    let a = r .area in let b = r .lengths in let c = r .heads in let d = r .nexts in let e = r .slots in
+    record { few = l .few; nexts = l .nexts; heads = l .heads; lengths = l .lengths; area = l .area; end = omega (arith, a, b, c, d, e, h) }
+
+pub ready-laid : (x : Index) (w : List ℕ) → Ready x w → Laid x (length w)
+ready-laid x w r = used-laid x _ (length w) (r .room) (r .long)
 
 -- ---- what stays
 
@@ -28,13 +38,14 @@ same-less a b s t h e = record { long = e .long; before = λ j g. e .before j (o
 module _ (x : Index) (w w′ : List ℕ) (r : Ready x w) (e : SameTo (x .area) w w′) where
   -- the slots
   pub slots-kept : slotsIn x (x .room) w′ ≡ slotsIn x (x .room) w
-  slots-kept = answered-elements x w (x .room) (room-laid (r .room)) (omega arith) (r .index) w′ (e .before)
+  slots-kept = answered-elements x w (x .room) (ready-laid x w r) (omega arith) (r .index) w′ (e .before)
 
   -- all of it
   pub ready-kept : Ready x w′
   ready-kept = record {
-    room = subst (Room x (x .room)) (sym (e .long)) (r .room);
-    index = answered-complete x w (x .room) (room-laid (r .room)) (omega arith) (r .index) w′ (e .before);
+    room = r .room;
+    long = let l = r .long in omega (arith, l, e .long);
+    index = answered-complete x w (x .room) (ready-laid x w r) (omega arith) (r .index) w′ (e .before);
     proper = ap (every (wellNumbered (x .vertices))) slots-kept ∙ r .proper;
   }
 

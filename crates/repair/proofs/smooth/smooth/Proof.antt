@@ -1,9 +1,8 @@
 -- `repair::smooth::smooth` meets its contract. Assumes nothing.
-use mathlib.Core.Path.{refl, ap, _∙_}
+use mathlib.Core.Path.{refl, _∙_}
 use native.Mathlib.Omega.{arith}
-use Rattle.mesh.specs.Words.{zeroWords}
 use Rattle.repair.specs.Regions.{regionsOf}
-use Rattle.repair.proofs.Laws.Site.Pass.{pass-refused, fits, numbered, pass-done}
+use Rattle.repair.proofs.Laws.Site.Pass.{pass-refused, fits, numbered, part-long, work-zeros, pass-done}
 use borrow.Author.Needs.{needs}
 use Rattle.repair.proofs.smooth.smooth.Statement.{statement}
 use Rattle.repair.proofs.smooth.smooth.Tie as tie
@@ -32,45 +31,55 @@ returns c =
     let R = regionsOf (a .listed) (a .regions .now) in
     (pass-refused (a .sizes) (a .o) (a .count) (a .fields) R (a .parameters .now) (a .points .now) (a .masks .now) (a .elements .now) (a .surface .now) (a .work .now) (a .floats .now) (c .before .before .before .intake .result) _ (c .before .before .before .before .before .before .before .before .before .before .clear-floats .kept .0) (c .before .before .before .intake .ensures .0) (c .if1 .taken), (c .before .before .before .intake .ensures .1, c .before .before .before .before .before .before .before .before .before .before .clear-floats .ensures))
 
-prepare-requires : tie.Need-prepare-requires
-prepare-requires c κs =
-    let a = (c .before .before .before .before .before .before .before .before .before .before .before .before .before .before .before .before .before .before .before .before .before .before .args) in
+used-words-requires : tie.Need-used-words-requires
+used-words-requires c κs =
+    let a = (c .before .before .before .before .before .before .before .before .before .before .before .before .before .before .before .before .before .before .before .before .args) in
     let R = regionsOf (a .listed) (a .regions .now) in
-    let z = c .before .before .if1 .left in
-    let f = fits (a .sizes) (a .o) (a .count) (a .fields) R (a .parameters .now) (a .points .now) (a .masks .now) (a .elements .now) (a .surface .now) (a .work .now) (a .floats .now) (c .before .before .before .before .before .intake .result) _ (c .before .before .before .before .before .before .before .before .before .before .before .before .clear-floats .kept .0) (c .before .before .before .before .before .intake .ensures .0) z in
-    ((f .vertices, f .elements, omega (arith, f .words, c .before .before .before .before .before .intake .kept .1 .1 .1 .1 .1 .1 .1 .1 .1 .0)), (omega (arith, f .slots), numbered (a .sizes) (a .o) (a .count) (a .fields) R (a .parameters .now) (a .points .now) (a .masks .now) (a .elements .now) (a .surface .now) (a .work .now) (a .floats .now) (c .before .before .before .before .before .intake .result) _ (c .before .before .before .before .before .before .before .before .before .before .before .before .clear-floats .kept .0) (c .before .before .before .before .before .intake .ensures .0) z))
+    let f = fits (a .sizes) (a .o) (a .count) (a .fields) R (a .parameters .now) (a .points .now) (a .masks .now) (a .elements .now) (a .surface .now) (a .work .now) (a .floats .now) (c .before .before .before .intake .result) _ (c .before .before .before .before .before .before .before .before .before .before .clear-floats .kept .0) (c .before .before .before .intake .ensures .0) (c .if1 .left) in
+    (f .vertices, f .elements)
 
-smooth-groups-requires : tie.Need-smooth-groups-requires
-smooth-groups-requires c κs =
-    let a = (c .before .before .before .before .before .before .before .before .before .before .before .before .before .before .before .before .before .before .before .before .before .before .before .before .before .before .before .before .args) in
+sub-smooth-in : tie.Need-sub-smooth-in
+sub-smooth-in c = search needs
+
+part-smooth-in-start : tie.Need-part-smooth-in-start
+part-smooth-in-start c = search needs
+
+part-smooth-in-end : tie.Need-part-smooth-in-end
+part-smooth-in-end c =
+    let a = (c .before .before .before .before .before .before .before .before .before .before .before .before .before .before .before .before .before .before .before .before .before .before .before .args) in
     let R = regionsOf (a .listed) (a .regions .now) in
-    let z = c .before .before .before .before .before .before .before .before .if1 .left in
-    let f = fits (a .sizes) (a .o) (a .count) (a .fields) R (a .parameters .now) (a .points .now) (a .masks .now) (a .elements .now) (a .surface .now) (a .work .now) (a .floats .now) (c .before .before .before .before .before .before .before .before .before .before .before .intake .result) _ (c .before .before .before .before .before .before .before .before .before .before .before .before .before .before .before .before .before .before .clear-floats .kept .0) (c .before .before .before .before .before .before .before .before .before .before .before .intake .ensures .0) z in
-    let q = c .before .before .before .before .before .prepare .ensures .0 in
-    ((q .2, c .before .before .before .before .before .prepare .ensures .1 .0, c .before .before .before .before .before .prepare .ensures .1 .1), (omega (arith, f .parameters, q .0), omega (arith, f .points, q .0)))
+    let f = fits (a .sizes) (a .o) (a .count) (a .fields) R (a .parameters .now) (a .points .now) (a .masks .now) (a .elements .now) (a .surface .now) (a .work .now) (a .floats .now) (c .before .before .before .before .before .before .intake .result) _ (c .before .before .before .before .before .before .before .before .before .before .before .before .before .clear-floats .kept .0) (c .before .before .before .before .before .before .intake .ensures .0) (c .before .before .before .if1 .left) in
+    omega (arith, f .words, c .before .before .used-words .ensures, c .before .before .before .before .before .before .intake .kept .1 .1 .1 .1 .1 .1 .1 .1 .1 .0)
 
-clear-requires : tie.Need-clear-requires
-clear-requires c κs = search needs
+smooth-in-requires : tie.Need-smooth-in-requires
+smooth-in-requires c κs =
+    let a = (c .before .before .before .before .before .before .before .before .before .before .before .before .before .before .before .before .before .before .before .before .before .before .before .before .args) in
+    let R = regionsOf (a .listed) (a .regions .now) in
+    let f = fits (a .sizes) (a .o) (a .count) (a .fields) R (a .parameters .now) (a .points .now) (a .masks .now) (a .elements .now) (a .surface .now) (a .work .now) (a .floats .now) (c .before .before .before .before .before .before .before .intake .result) _ (c .before .before .before .before .before .before .before .before .before .before .before .before .before .before .clear-floats .kept .0) (c .before .before .before .before .before .before .before .intake .ensures .0) (c .before .before .before .before .if1 .left) in
+    let u = c .before .before .before .used-words .ensures in
+    let l = part-long (c .before .before .before .used-words .result) (c .before .before .before .before .before .before .before .intake .last .1 .1 .1 .1 .1 .1 .1 .1 .1 .0) (omega (arith, f .words, u, c .before .before .before .before .before .before .before .intake .kept .1 .1 .1 .1 .1 .1 .1 .1 .1 .0)) in
+    ((f .vertices, f .elements, omega (arith, l, u)), ((omega (arith, f .slots), numbered (a .sizes) (a .o) (a .count) (a .fields) R (a .parameters .now) (a .points .now) (a .masks .now) (a .elements .now) (a .surface .now) (a .work .now) (a .floats .now) (c .before .before .before .before .before .before .before .intake .result) _ (c .before .before .before .before .before .before .before .before .before .before .before .before .before .before .clear-floats .kept .0) (c .before .before .before .before .before .before .before .intake .ensures .0) (c .before .before .before .before .if1 .left)), (f .parameters, f .points)))
 
 same-length-5 : tie.Need-same-length-5
-same-length-5 c = c .before .before .before .before .before .before .before .before .before .before .smooth-groups .ensures .long .0
+same-length-5 c = search needs
 
 same-length-6 : tie.Need-same-length-6
-same-length-6 c = c .before .before .before .before .before .before .before .before .before .before .smooth-groups .ensures .long .1
+same-length-6 c = search needs
 
 same-length-7 : tie.Need-same-length-7
-same-length-7 c = c .before .before .clear .kept .0 ∙ (c .before .before .before .before .before .before .before .before .before .before .smooth-groups .kept .1 .1 .1 .1 .1 .1 .1 .1 .1 .0 ∙ (c .before .before .before .before .before .before .before .before .before .before .before .before .before .before .before .before .prepare .kept .1 .1 .1 .1 .0 ∙ c .before .before .before .before .before .before .before .before .before .before .before .before .before .before .before .before .before .before .before .before .before .before .intake .kept .1 .1 .1 .1 .1 .1 .1 .1 .1 .0))
+same-length-7 c = search needs
 
 same-length-8 : tie.Need-same-length-8
-same-length-8 c = c .before .before .before .before .before .before .before .before .before .before .before .before .before .before .before .before .before .before .before .before .before .before .before .before .before .before .before .before .before .clear-floats .kept .0
+same-length-8 c = search needs
 
 returns-2 : tie.Need-returns-2
 returns-2 c =
-    let a = (c .before .before .before .before .before .before .before .before .before .before .before .before .before .before .before .before .before .before .before .before .before .before .before .before .before .before .before .before .before .before .before .before .before .before .before .before .before .before .before .args) in
+    let a = (c .before .before .before .before .before .before .before .before .before .before .before .before .before .before .before .before .before .before .before .before .before .before .before .before .before .before .before .before .before .before .before .args) in
     let R = regionsOf (a .listed) (a .regions .now) in
-    let z = c .before .before .before .before .before .before .before .before .before .before .before .before .before .before .before .before .before .before .before .if1 .left in
-    let q = c .before .before .before .before .before .before .before .before .before .before .before .before .before .before .before .before .prepare .ensures .0 in
-    (pass-done (a .sizes) (a .o) (a .count) (a .fields) R (a .parameters .now) (a .points .now) (a .masks .now) (a .elements .now) (a .surface .now) (a .work .now) (a .floats .now) (c .before .before .before .before .before .before .before .before .before .before .before .before .before .before .before .before .before .before .before .before .before .before .intake .result) _ (c .before .before .before .before .before .before .before .before .before .before .before .before .before .before .before .before .before .before .before .before .before .before .before .before .before .before .before .before .before .clear-floats .kept .0) (c .before .before .before .before .before .before .before .before .before .before .before .before .before .before .before .before .before .before .before .before .before .before .intake .ensures .0) z (c .before .before .before .before .before .before .before .before .before .before .before .before .before .before .before .before .prepare .result) (q .0) (q .1) _ _ (c .before .before .before .before .before .before .before .before .before .before .smooth-groups .result) (c .before .before .before .before .before .before .before .before .before .before .smooth-groups .ensures), (c .before .before .clear .ensures ∙ ap zeroWords (c .before .before .before .before .before .before .before .before .before .before .smooth-groups .kept .1 .1 .1 .1 .1 .1 .1 .1 .1 .0 ∙ (c .before .before .before .before .before .before .before .before .before .before .before .before .before .before .before .before .prepare .kept .1 .1 .1 .1 .0 ∙ c .before .before .before .before .before .before .before .before .before .before .before .before .before .before .before .before .before .before .before .before .before .before .intake .kept .1 .1 .1 .1 .1 .1 .1 .1 .1 .0)), c .before .before .before .before .before .before .before .before .before .before .before .before .before .before .before .before .before .before .before .before .before .before .before .before .before .before .before .before .before .clear-floats .ensures))
+    let f = fits (a .sizes) (a .o) (a .count) (a .fields) R (a .parameters .now) (a .points .now) (a .masks .now) (a .elements .now) (a .surface .now) (a .work .now) (a .floats .now) (c .before .before .before .before .before .before .before .before .before .before .before .before .before .before .intake .result) _ (c .before .before .before .before .before .before .before .before .before .before .before .before .before .before .before .before .before .before .before .before .before .clear-floats .kept .0) (c .before .before .before .before .before .before .before .before .before .before .before .before .before .before .intake .ensures .0) (c .before .before .before .before .before .before .before .before .before .before .before .if1 .left) in (
+      pass-done (a .sizes) (a .o) (a .count) (a .fields) R (a .parameters .now) (a .points .now) (a .masks .now) (a .elements .now) (a .surface .now) (a .work .now) (a .floats .now) (c .before .before .before .before .before .before .before .before .before .before .before .before .before .before .intake .result) _ (c .before .before .before .before .before .before .before .before .before .before .before .before .before .before .before .before .before .before .before .before .before .clear-floats .kept .0) (c .before .before .before .before .before .before .before .before .before .before .before .before .before .before .intake .ensures .0) (c .before .before .before .before .before .before .before .before .before .before .before .if1 .left) _ _ (c .before .before .before .before .before .before .smooth-in .result) (c .before .before .before .before .before .before .smooth-in .ensures .0),
+      (work-zeros (c .before .before .before .before .before .before .before .before .before .before .used-words .result) _ (c .before .before .before .before .before .before .before .before .before .before .before .before .before .before .intake .last .1 .1 .1 .1 .1 .1 .1 .1 .1 .0) _ (omega (arith, f .words, c .before .before .before .before .before .before .before .before .before .before .used-words .ensures, c .before .before .before .before .before .before .before .before .before .before .before .before .before .before .intake .kept .1 .1 .1 .1 .1 .1 .1 .1 .1 .0)) (c .before .before .before .before .before .before .before .before .before .before .before .before .before .before .intake .kept .1 .1 .1 .1 .1 .1 .1 .1 .1 .0) (c .before .before .before .before .before .before .before .before .before .before .before .before .before .before .intake .ensures .1) (c .before .before .before .before .before .before .smooth-in .ensures .1), c .before .before .before .before .before .before .before .before .before .before .before .before .before .before .before .before .before .before .before .before .before .clear-floats .ensures),
+    )
 
 pub smooth-spec : {M : Type 1} → statement M
 smooth-spec =
@@ -83,9 +92,11 @@ smooth-spec =
     same-length-3
     same-length-4
     returns
-    prepare-requires
-    smooth-groups-requires
-    clear-requires
+    used-words-requires
+    sub-smooth-in
+    part-smooth-in-start
+    part-smooth-in-end
+    smooth-in-requires
     same-length-5
     same-length-6
     same-length-7
