@@ -2,16 +2,14 @@
 -- private functions; definitions only.
 use Prim.Native.Nat.{ℕ, zero, suc, _+_, _*_, _≤_, _<_}
 use mathlib.Core.Path.{_≡_}
-use mathlib.Core.Bool.{true, cond, _&&_}
+use mathlib.Core.Bool.{true, cond}
 use mathlib.Core.List.{List, [], _∷_, map}
 use mathlib.Core.Option.{none, some}
 use lib.Dec.{eqb}
-use lib.Ieee.{Float, lt}
+use lib.Ieee.{Float}
 use lib.ListN.{length, take, drop, set}
 use Rattle.geometry.specs.declared.point.Point.{Point}
 use Rattle.geometry.specs.declared.bounds.Options.{Options}
-use Rattle.geometry.specs.Float.{_+₆₄_}
-use Rattle.geometry.specs.Literals.{e-10}
 use Rattle.geometry.specs.Bounds.{spacing, canonical}
 use Rattle.mesh.specs.declared.element.Tet.{Tet}
 use Rattle.mesh.specs.declared.star.Index.{Index}
@@ -96,7 +94,7 @@ bestIn b = record { lowest = b .lowest; found = cond (b .found) (some (b .point)
 
 -- the better of the best so far and p, whose trial is t
 unfoldable pub replaced : Found.Best → Point → Trial → Found.Best
-replaced best p t = cond (t .above && lt (best .lowest +₆₄ e-10) (t .lowest)) (record { lowest = t .lowest; found = true; point = p }) best
+replaced best p t = cond (t .better) (record { lowest = t .lowest; found = true; point = p }) best
 
 -- no candidate yet
 abbrev pub noneYet : Float → Best

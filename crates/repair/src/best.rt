@@ -32,24 +32,22 @@ pub struct Start {
     pub mean: Point,
 }
 
-// The better of the best so far and p, whose trial is t: p where that has a lowest score higher by more than 1e-10.
+// The better of the best so far and p, whose trial is t: p where that is better.
 fn better(best: Best, p: Point, t: Trial) -> Best
     ensures { λ r. ⌜ r ≡ replaced best p t ⌝ }
 {
-    if !t.above {
+    if !t.better {
         return best;
     }
-    if best.lowest + 1e-10 < t.lowest {
-        return Best {
-            lowest: t.lowest,
-            found: true,
-            point: p,
-        };
+    Best {
+        lowest: t.lowest,
+        found: true,
+        point: p,
     }
-    best
 }
 
-// The better of the best so far and a candidate, once it is projected; `active` are the first m of the fields to project onto.
+// The better of the best so far and a candidate, once it is projected: the candidate where its lowest score is higher by more than 1e-10.
+// `active` are the first m of the fields to project onto.
 fn try_candidate(
     o: Options,
     count: usize,
@@ -80,7 +78,8 @@ fn try_candidate(
             if !allowed(o, fields, count, listed, regions, origin, m, p) {
                 return best;
             }
-            let t = try_point(o, parameters, points, elements, work, s, p);
+            let bar = best.lowest + 1e-10;
+            let t = try_point(o, parameters, points, elements, work, s, p, bar);
             better(best, p, t)
         }
     }

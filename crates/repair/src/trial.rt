@@ -12,7 +12,8 @@ use mesh::list::vertex_point;
 use mesh::vertex::tet_at;
 use mesh::words::word;
 ghost use mathlib.Core.Path.{_≡_};
-ghost use mathlib.Core.Bool.{true};
+ghost use mathlib.Core.Bool.{true, _&&_};
+ghost use lib.Ieee.{lt};
 ghost use Rattle.mesh.specs.Words.{pointAt, pointsOf};
 ghost use Rattle.mesh.specs.Tests.{every};
 ghost use Rattle.repair.specs.Mesh.{measure, lowestOf};
@@ -34,9 +35,9 @@ pub struct Measured {
     pub score: f64,
 }
 
-// Whether every determinant is above 0, and then the lowest score.
+// Whether every determinant is above 0 and the lowest score above a given bar, and then the lowest score.
 pub struct Trial {
-    pub above: bool,
+    pub better: bool,
     pub lowest: f64,
 }
 
@@ -103,7 +104,7 @@ fn measure_element(
     }
 }
 
-// The elements about the group with it moved to p.
+// The elements about the group with it moved to p. It stops at a determinant that is not above 0, and where the lowest score so far is not above `bar`.
 pub(crate) fn try_point(
     o: Options,
     parameters: &[f64],
@@ -112,10 +113,12 @@ pub(crate) fn try_point(
     work: &[u32],
     s: Site,
     p: Point,
+    bar: f64,
 ) -> Trial
     requires { ⌜ InRange s ⌝ }
-    ensures { λ r. ⌜ r .above ≡ every (measure (trialPoints o (now (parameters .entry)) (now (points .entry)) (now (work .entry)) s p) .above) (about (now (elements .entry)) (now (work .entry)) (s .area) (s .about)) ⌝ }
-    ensures { λ r. ⌜ (r .above ≡ true → r .lowest ≡ lowestOf (measure (trialPoints o (now (parameters .entry)) (now (points .entry)) (now (work .entry)) s p)) (about (now (elements .entry)) (now (work .entry)) (s .area) (s .about))) ⌝ }
+    ensures { λ r. ⌜ r .better ≡ (every (measure (trialPoints o (now (parameters .entry)) (now (points .entry)) (now (work .entry)) s p) .above) (about (now (elements .entry)) (now (work .entry)) (s .area) (s .about))
+        && lt bar (lowestOf (measure (trialPoints o (now (parameters .entry)) (now (points .entry)) (now (work .entry)) s p)) (about (now (elements .entry)) (now (work .entry)) (s .area) (s .about)))) ⌝ }
+    ensures { λ r. ⌜ (r .better ≡ true → r .lowest ≡ lowestOf (measure (trialPoints o (now (parameters .entry)) (now (points .entry)) (now (work .entry)) s p)) (about (now (elements .entry)) (now (work .entry)) (s .area) (s .about))) ⌝ }
 {
     let mut low = 1.0;
     let mut i = s.area;
@@ -125,16 +128,22 @@ pub(crate) fn try_point(
         let m = measure_element(o, parameters, points, work, s, p, t);
         if !m.above {
             return Trial {
-                above: false,
+                better: false,
                 lowest: low,
             };
         }
         low = smaller(low, m.score);
+        if !(bar < low) {
+            return Trial {
+                better: false,
+                lowest: low,
+            };
+        }
         i += 1;
         left -= 1;
     }
     Trial {
-        above: true,
+        better: bar < low,
         lowest: low,
     }
 }

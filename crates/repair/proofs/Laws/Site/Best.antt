@@ -2,7 +2,7 @@
 use mathlib.Core.Path.{_≡_, refl, sym, ap, ap₂, _∙_}
 use mathlib.Core.Bool.{Bool, true, false, cond, _&&_}
 use mathlib.Core.List.{List, [], _∷_, _++_, map}
-use mathlib.Core.Option.{Option, some}
+use mathlib.Core.Option.{Option}
 use Prim.Native.Nat.{ℕ, suc, _+_, _≤_, _<_}
 use native.Mathlib.Omega.{arith}
 use borrow.Author.Tests.{ne-eqb}
@@ -33,45 +33,33 @@ use Rattle.repair.specs.Site.{stateOf, bestIn, replaced, firstOf, startL
 -- ---- one candidate
 
 module _ (best : Best) (p : Point) (t : Trial) where
-  -- a determinant is not above 0
-  pub replaced-no : t .above ≡ false → best ≡ replaced best p t
+  -- the trial is not better
+  pub replaced-no : t .better ≡ false → best ≡ replaced best p t
   unfolding replaced
   replaced-no e = sym (rw e refl)
 
-  -- the lowest score is higher by more than 1e-10
-  pub replaced-yes : t .above ≡ true → lt (best .lowest +₆₄ e-10) (t .lowest) ≡ true → _≡_ {A = Best} (record { lowest = t .lowest; found = true; point = p }) (replaced best p t)
+  -- it is
+  pub replaced-yes : t .better ≡ true → _≡_ {A = Best} (record { lowest = t .lowest; found = true; point = p }) (replaced best p t)
   unfolding replaced
-  replaced-yes e f = sym (rw (e, f) refl)
-
-  -- it is not
-  pub replaced-low : lt (best .lowest +₆₄ e-10) (t .lowest) ≡ false → best ≡ replaced best p t
-  unfolding replaced
-  replaced-low f = sym (ap (λ (b : Bool). cond (t .above && b) (record { lowest = t .lowest; found = true; point = p }) best) f ∙ never (t .above))
-    where
-      never : (b : Bool) → cond (b && false) (record { lowest = t .lowest; found = true; point = p }) best ≡ best
-      never true = refl
-      never false = refl
+  replaced-yes e = sym (rw e refl)
 
 -- the trial of p replaces the best so far as `better` says
-pub replaced-is : (ts : List Tet) (ps : List Point) (best : Best) (p : Point) (t : Trial)
-    → t .above ≡ every (measure ps .above) ts → (t .above ≡ true → t .lowest ≡ lowestOf (measure ps) ts) → bestIn (replaced best p t) ≡ better ts ps p (bestIn best)
+replaced-is : (ts : List Tet) (ps : List Point) (best : Best) (p : Point) (t : Trial)
+    → t .better ≡ (every (measure ps .above) ts && lt (best .lowest +₆₄ e-10) (lowestOf (measure ps) ts)) → (t .better ≡ true → t .lowest ≡ lowestOf (measure ps) ts)
+    → bestIn (replaced best p t) ≡ better ts ps p (bestIn best)
 unfolding replaced
-replaced-is ts ps best p t e f = go (t .above) (t .lowest) e f
+replaced-is ts ps best p t e f = go (t .better) (t .lowest) e f
   where
-    both : (b : Bool) (low : Float)
-        → bestIn (cond b (record { lowest = low; found = true; point = p }) best) ≡ cond b (record { lowest = low; found = some p }) (bestIn best)
-    both true low = refl
-    both false low = refl
-
-    go : (a : Bool) (low : Float) → a ≡ every (measure ps .above) ts → (a ≡ true → low ≡ lowestOf (measure ps) ts)
-        → bestIn (cond (a && lt (best .lowest +₆₄ e-10) low) (record { lowest = low; found = true; point = p }) best) ≡ better ts ps p (bestIn best)
-    go true low e f = rw (sym e, sym (f refl)) (both (lt (best .lowest +₆₄ e-10) low) low)
+    go : (a : Bool) (low : Float) → a ≡ (every (measure ps .above) ts && lt (best .lowest +₆₄ e-10) (lowestOf (measure ps) ts)) → (a ≡ true → low ≡ lowestOf (measure ps) ts)
+        → bestIn (cond a (record { lowest = low; found = true; point = p }) best) ≡ better ts ps p (bestIn best)
+    go true low e f = rw (sym e, sym (f refl)) refl
     go false low e f = rw (sym e) refl
 
 module _ (o : Options) (fields : List Field) (regions : Option (List ℕ)) (ts : List Tet) (s : State) (g : List ℕ) (origin : Point) (active : List Field) where
   -- a candidate that may be taken
   pub tried-found : (best : Best) (p : Point) (t : Trial) (r : Best) (m : ℕ) → length active ≡ m → allowedBy o fields regions origin (eqb m 0) p ≡ true
-      → t .above ≡ every (measure (moveTo o s g p .points) .above) ts → (t .above ≡ true → t .lowest ≡ lowestOf (measure (moveTo o s g p .points)) ts)
+      → t .better ≡ (every (measure (moveTo o s g p .points) .above) ts && lt (best .lowest +₆₄ e-10) (lowestOf (measure (moveTo o s g p .points)) ts))
+      → (t .better ≡ true → t .lowest ≡ lowestOf (measure (moveTo o s g p .points)) ts)
       → r ≡ replaced best p t → bestIn r ≡ tried o fields regions ts s g origin active (bestIn best) (Found p)
   tried-found best p t r m n a e f q =
       ap bestIn q ∙ replaced-is ts (moveTo o s g p .points) best p t e f

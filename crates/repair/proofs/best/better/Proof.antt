@@ -1,6 +1,6 @@
 -- `repair::best::better` meets its contract. Assumes nothing.
 use borrow.Author.Tests.{not-true, not-false}
-use Rattle.repair.proofs.Laws.Site.Best.{replaced-no, replaced-yes, replaced-low}
+use Rattle.repair.proofs.Laws.Site.Best.{replaced-no, replaced-yes}
 use Rattle.repair.proofs.best.better.Statement.{statement}
 use Rattle.repair.proofs.best.better.Tie as tie
 
@@ -8,12 +8,7 @@ returns : tie.Need-returns
 returns c = replaced-no (c .before .before .args .best) (c .before .before .args .p) (c .before .before .args .t) (not-true _ (c .if1 .taken))
 
 returns-2 : tie.Need-returns-2
-unfolding lib.Ieee.ofBits
-returns-2 c = replaced-yes (c .before .before .before .before .before .args .best) (c .before .before .before .before .before .args .p) (c .before .before .before .before .before .args .t) (not-false _ (c .before .before .before .if1 .left)) (c .if2 .taken)
-
-returns-3 : tie.Need-returns-3
-unfolding lib.Ieee.ofBits
-returns-3 c = replaced-low (c .before .before .before .before .before .args .best) (c .before .before .before .before .before .args .p) (c .before .before .before .before .before .args .t) (c .if2 .left)
+returns-2 c = replaced-yes (c .before .before .args .best) (c .before .before .args .p) (c .before .before .args .t) (not-false _ (c .if1 .left))
 
 pub better-spec : {M : Type 1} → statement M
-better-spec = tie.close (tie.spec returns returns-2 returns-3)
+better-spec = tie.close (tie.spec returns returns-2)

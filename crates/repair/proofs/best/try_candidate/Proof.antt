@@ -35,7 +35,7 @@ returns c =
     ∙ ap (tried (a .o) F R ts s g (a .origin) act (bestIn (a .best))) (sym (c .before .before .before .q .given .1) ∙ c .before .before .before .before .before .project-candidate .ensures)
 
 try-point-requires : tie.Need-try-point-requires
-try-point-requires c κs = c .before .before .before .before .before .before .before .before .before .before .before .before .pre .0
+try-point-requires c κs = c .before .before .before .before .before .before .before .before .before .before .before .before .before .pre .0
 
 better-requires : tie.Need-better-requires
 better-requires c κs = search needs
@@ -52,17 +52,17 @@ returns-2 c =
     ap (tried (a .o) F R ts s g (a .origin) act (bestIn (a .best))) (sym (c .enum-told .given .1) ∙ c .before .before .project-candidate .ensures)
 
 returns-3 : tie.Need-returns-3
-unfolding trialPoints
+unfolding trialPoints lib.Ieee.ofBits
 returns-3 c =
-    let a = (c .before .before .before .before .before .before .before .before .before .before .before .before .before .before .args) in
+    let a = (c .before .before .before .before .before .before .before .before .before .before .before .before .before .before .before .args) in
     let F = take (a .count) (a .fields) in
     let R = regionsOf (a .listed) (a .regions .now) in
     let ts = about (a .elements .now) (a .work .now) (a .s .area) (a .s .about) in
     let s = stateOf (a .s .vertices) (a .parameters .now) (a .points .now) 0 in
     let g = members (a .work .now) (a .s .group) (a .s .count) in
     let act = take (a .m) (a .active) in
-    tried-found (a .o) F R ts s g (a .origin) act (a .best) _ (c .before .try-point .result) _ (a .m) (c .before .before .before .before .before .before .before .before .before .before .before .before .before .before .pre .1) (holds-by (c .before .before .before .allowed .ensures) (c .before .before .if1 .left)) (c .before .try-point .ensures .0) (c .before .try-point .ensures .1) (c .better .ensures)
-    ∙ ap (tried (a .o) F R ts s g (a .origin) act (bestIn (a .best))) (sym (c .before .before .before .before .before .q .given .1) ∙ c .before .before .before .before .before .before .before .project-candidate .ensures)
+    tried-found (a .o) F R ts s g (a .origin) act (a .best) _ (c .before .try-point .result) _ (a .m) (c .before .before .before .before .before .before .before .before .before .before .before .before .before .before .before .pre .1) (holds-by (c .before .before .before .before .allowed .ensures) (c .before .before .before .if1 .left)) (c .before .try-point .ensures .0) (c .before .try-point .ensures .1) (c .better .ensures)
+    ∙ ap (tried (a .o) F R ts s g (a .origin) act (bestIn (a .best))) (sym (c .before .before .before .before .before .before .q .given .1) ∙ c .before .before .before .before .before .before .before .before .project-candidate .ensures)
 
 pub try-candidate-spec : {M : Type 1} → statement M
 try-candidate-spec =
