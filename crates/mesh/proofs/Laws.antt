@@ -25,3 +25,4 @@ pub mod About
 pub mod Short
 pub mod Shared
 pub mod With
+pub mod Marks

@@ -23,3 +23,4 @@ pub mod About
 pub mod Short
 pub mod Shared
 pub mod With
+pub mod Marks

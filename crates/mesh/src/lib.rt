@@ -10,6 +10,7 @@ pub mod intake;
 pub mod link;
 pub mod list;
 pub mod manifold;
+mod marks;
 pub mod rows;
 pub mod shared;
 pub mod short;
