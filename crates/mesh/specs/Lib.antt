@@ -13,6 +13,7 @@ pub mod Link
 pub mod Feature
 pub mod FeatureByMasks
 pub mod Manifold
+pub mod Faces
 pub mod Group
 pub mod Intake
 pub mod Star

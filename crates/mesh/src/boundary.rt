@@ -3,23 +3,21 @@
 // An area for n elements has 36 n words: the elements, 4 n words; the face rows, 4 n rows of 4 words; as many words of scratch. A face
 // row is a face's key and its number, which is 4 e + k for the face k of the element e. The single faces are gathered as rows of 3
 // words over the face rows that are read already.
-use crate::element::Tet;
 use crate::element::Triple;
-use crate::element::face_key;
 use crate::element::face_parity;
-use crate::element::tet_face;
+use crate::faces::face_at;
+use crate::faces::sorted_faces;
 use crate::rows::eq_rows;
 use crate::rows::sort_rows;
 use crate::words::clear;
 use crate::words::copy_over;
-use crate::words::word;
 ghost use mathlib.Core.Path.{_≡_};
 ghost use Prim.Native.Nat.{_+_, _*_, _≤_};
 ghost use lib.ListN.{length, drop};
 ghost use lib.Seq.{paste};
 ghost use Rattle.mesh.specs.Element.{cornersOf};
-ghost use Rattle.mesh.specs.Rows.{rows, flat};
-ghost use Rattle.mesh.specs.Surface.{triplesOf, areaFits, callFits, Filled, boundaryIn, Call, boundaryCall, faceAt, faceRow, faceRows, kindAt, FaceArea, Gathered};
+ghost use Rattle.mesh.specs.Rows.{rows};
+ghost use Rattle.mesh.specs.Surface.{triplesOf, areaFits, callFits, Filled, boundaryIn, Call, boundaryCall, kindAt, FaceArea, Gathered};
 
 // How many surface triples, or the number of the refusal.
 pub enum Outcome {
@@ -63,21 +61,6 @@ fn call_fits(n: usize, elements: usize, surface: usize, work: usize) -> bool
     36 * n <= work
 }
 
-// The face with this number.
-fn face_at(area: &[u32], number: u32) -> Triple
-    ensures { λ r. ⌜ r ≡ faceAt (now (area .entry)) number ⌝ }
-{
-    let first = number / 4 * 4;
-    let p = first as usize;
-    let t = Tet {
-        a: word(area, p),
-        b: word(area, p + 1),
-        c: word(area, p + 2),
-        d: word(area, p + 3),
-    };
-    tet_face(t, number % 4)
-}
-
 // Writes a triple at p.
 fn put_triple(area: &mut [u32], p: usize, f: Triple)
     requires { ⌜ p + 3 ≤ length (now area) ⌝ }
@@ -86,35 +69,6 @@ fn put_triple(area: &mut [u32], p: usize, f: Triple)
     area[p] = f.a;
     area[p + 1] = f.b;
     area[p + 2] = f.c;
-}
-
-// Writes the row of a face with its number at p.
-fn put_row(area: &mut [u32], p: usize, f: Triple, number: u32)
-    requires { ⌜ p + 4 ≤ length (now area) ⌝ }
-    ensures { λ _. ⌜ now (area .exit) ≡ paste (now (area .entry)) p (faceRow f number) 4 ⌝ }
-{
-    let k = face_key(f);
-    area[p] = k.a;
-    area[p + 1] = k.b;
-    area[p + 2] = k.c;
-    area[p + 3] = number;
-}
-
-// Writes the face rows of n elements behind them.
-fn list_faces(area: &mut [u32], n: usize)
-    requires { ⌜ (n ≤ 65536) × (36 * n ≤ length (now area)) ⌝ }
-    ensures { λ _. ⌜ now (area .exit) ≡ paste (now (area .entry)) (4 * n) (flat (faceRows n (now (area .entry)))) (16 * n) ⌝ }
-{
-    let mut p = 4 * n;
-    let mut left = p;
-    let mut number: u32 = 0;
-    while 0 < left {
-        let f = face_at(area, number);
-        put_row(area, p, f, number);
-        p += 4;
-        left -= 1;
-        number += 1;
-    }
 }
 
 // The run of equal keys that begins at p, where `left` rows are left: 0 a single face, 1 two of opposite parity, 17 two of equal
@@ -181,8 +135,7 @@ pub fn boundary_in(area: &mut [u32], n: usize) -> Outcome
         return Outcome::Refused(10);
     }
     let m = 4 * n;
-    list_faces(area, n);
-    sort_rows(&mut area[m..], m, 4);
+    sorted_faces(area, n);
     let found = gather(area, n);
     let c = triples_of(found);
     sort_rows(&mut area[m..], c, 3);

@@ -5,6 +5,7 @@ pub mod about;
 pub mod boundary;
 pub mod element;
 pub mod euler;
+mod faces;
 pub mod group;
 pub mod intake;
 pub mod link;

@@ -116,7 +116,7 @@ module _ {A : Type 0} (le : A → A → Bool) (trans : (a b c : A) → le a b �
           (head-first x y a h (sym (elem-other y x a f) ∙ c y ∙ elem-first y b))
 
   -- the head is not among the others
-  head-once : (x : A) (l : List A) → ordered (before le) (x ∷ l) ≡ true → elem eq x l ≡ false
+  pub head-once : (x : A) (l : List A) → ordered (before le) (x ∷ l) ≡ true → elem eq x l ≡ false
   head-once x l h = fails (elem eq x l) (λ m. let b = head-first x x l h m in before-not x x b b)
 
   same-rest : (x : A) (a b : List A) → ordered (before le) (x ∷ a) ≡ true → ordered (before le) (x ∷ b) ≡ true

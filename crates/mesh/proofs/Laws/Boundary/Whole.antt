@@ -6,7 +6,7 @@ use Prim.Native.Nat.{ℕ, zero, suc, _+_, _-_, _*_, _≤_, _<_}
 use native.Mathlib.Omega.{arith}
 use lib.Dec.{leb, ltb, eqb}
 use lib.ListN.{length, take, drop, getD, replicate, length-append, length-drop, drop-of-length-le}
-use lib.Seq.{paste, length-paste, take-at, drop-at, take-all, take-take, take-add, length-take-le}
+use lib.Seq.{take-at, drop-at, take-all, take-take, take-add, length-take-le}
 use borrow.Author.Tests.{le-leb, leb-true, lt-ltb, ne-eqb}
 use borrow.Rule.Slice.PartMut.{midOf, putMid}
 use Rattle.mesh.specs.declared.element.Tet.{Tet}
@@ -19,14 +19,14 @@ use Rattle.mesh.specs.Rows.{rows, flat, leRow, fitRows, sortedArea}
 use Rattle.mesh.specs.Element.{tets, cornersOf}
 use Rattle.mesh.specs.Boundary.{leTriple, boundaryNumber, boundaryOf}
 use Rattle.mesh.specs.Surface.{answer, triplesOf, answerOf, surfaceWords, areaFits, Filled, boundaryIn, faceRows, faceArea, FaceArea, gathered, Gathered}
+use Rattle.mesh.specs.Faces.{FaceRoom, SortedFaces}
 use Rattle.mesh.proofs.Laws.Bools.{and-intro, and-left, and-right}
 use Rattle.mesh.proofs.Laws.Rows.{Shape, none, more, rows-flat, rows-words}
-use Rattle.mesh.proofs.Laws.Areas.{area-is, rows-sorted, length-sorted}
+use Rattle.mesh.proofs.Laws.Areas.{area-is, length-sorted}
 use Rattle.mesh.proofs.Laws.Boundary.Order.{sort-corners}
 use Rattle.mesh.proofs.Laws.Boundary.Faces.{rows-kept, tets-kept}
 use Rattle.mesh.proofs.Laws.Boundary.Scan.{rows-known, area-number, area-surface, area-count}
 use Rattle.mesh.proofs.Laws.Boundary.Meaning.{length-tets, surface-few}
-use Rattle.mesh.proofs.Laws.Boundary.Listing.{shape-faces, length-words}
 use Rattle.mesh.proofs.Laws.Boundary.Gather.{length-triples}
 
 -- ---- a part that reaches to the end
@@ -117,181 +117,149 @@ module _ (n : ℕ) (s₀ : List ℕ) (fits : areaFits n (length s₀) ≡ true) 
   room : 36 * n ≤ length s₀
   room = fits-room n (length s₀) fits
 
-  -- the rows listed
-  module _ (s₁ : List ℕ) (e₁ : s₁ ≡ paste s₀ (4 * n) (flat (faceRows n s₀)) (16 * n)) where
-    long₁ : length s₁ ≡ length s₀
-    long₁ = ap length e₁ ∙ length-paste s₀ (4 * n) (flat (faceRows n s₀)) (16 * n) (omega (arith, room)) (omega (arith, length-words s₀ n))
+  head-long : length (take (4 * n) s₀) ≡ 4 * n
+  head-long = length-take-le (4 * n) s₀ (omega (arith, room))
 
-    pub part-room : (n ≤ 65536) × (4 * n ≤ length s₁)
-    part-room = (fits-few n (length s₀) fits, omega (arith, long₁, room))
+  pub faces-room : FaceRoom n s₀
+  faces-room = record { few = fits-few n (length s₀) fits; room = room }
 
-    pasted : s₁ ≡ take (4 * n) s₀ ++ (flat (faceRows n s₀) ++ drop (4 * n + 16 * n) s₀)
-    pasted =
-        e₁ ∙ append-assoc (take (4 * n) s₀) (take (16 * n) (flat (faceRows n s₀))) (drop (4 * n + 16 * n) s₀)
-        ∙ ap (λ (u : List ℕ). take (4 * n) s₀ ++ (u ++ drop (4 * n + 16 * n) s₀)) (take-all (16 * n) (flat (faceRows n s₀)) (omega (arith, length-words s₀ n)))
+  -- the rows sorted
+  module _ (s₂ : List ℕ) (t : SortedFaces n s₀ s₂) where
+    long₂ : length s₂ ≡ length s₀
+    long₂ = t .kept .long
 
-    head-long : length (take (4 * n) s₀) ≡ 4 * n
-    head-long = length-take-le (4 * n) s₀ (omega (arith, room))
+    head₂ : take (4 * n) s₂ ≡ take (4 * n) s₀
+    head₂ = t .kept .front
 
-    head₁ : take (4 * n) s₁ ≡ take (4 * n) s₀
-    head₁ = ap (take (4 * n)) pasted ∙ take-at (take (4 * n) s₀) (flat (faceRows n s₀) ++ drop (4 * n + 16 * n) s₀) (4 * n) head-long
+    area₂ : faceArea n s₂ ≡ sort leRow (faceRows n s₂)
+    area₂ = t .sorted ∙ ap (sort leRow) (rows-kept n s₀ s₂ (sym head₂))
 
-    listed : rows 4 (4 * n) (drop (4 * n) s₁) ≡ faceRows n s₀
-    listed =
-        ap (rows 4 (4 * n)) (ap (drop (4 * n)) pasted ∙ drop-at (take (4 * n) s₀) (flat (faceRows n s₀) ++ drop (4 * n + 16 * n) s₀) (4 * n) head-long)
-        ∙ rows-flat (shape-faces s₀ n) (drop (4 * n + 16 * n) s₀)
+    pub rows-stand : FaceArea n s₂
+    rows-stand = record {
+      few = fits-few n (length s₀) fits;
+      room = omega (arith, room, long₂);
+      known = ap (λ (u : List (List ℕ)). Rattle.mesh.specs.Tests.every (λ r. ltb (getD r 3 0) (4 * n)) u) area₂ ∙ rows-known n s₂;
+    }
 
-    -- and sorted
-    module _ (x₁ : List ℕ) (f₁ : x₁ ≡ sortedArea (4 * n) 4 (midOf (4 * n) (length s₁ - 4 * n) s₁)) where
-      abbrev s₂ : List ℕ
-      s₂ = putMid (4 * n) (length s₁ - 4 * n) s₁ x₁
+    elements₂ : tets n s₂ ≡ tets n s₀
+    elements₂ = tets-kept n s₂ s₀ head₂
 
-      sorted₁ : x₁ ≡ sortedArea (4 * n) 4 (drop (4 * n) s₁)
-      sorted₁ = f₁ ∙ ap (sortedArea (4 * n) 4) (tail-mid (4 * n) s₁)
+    -- and gathered
+    module _ (s₃ : List ℕ) (r : Outcome) (long₃ : length s₃ ≡ length s₂) (g : Gathered n s₂ s₃ r) where
+      pub part-room₂ : (n ≤ 65536) × (4 * n ≤ length s₃)
+      part-room₂ = (fits-few n (length s₀) fits, omega (arith, long₃, long₂, room))
 
-      put₂ : s₂ ≡ take (4 * n) s₀ ++ sortedArea (4 * n) 4 (drop (4 * n) s₁)
-      put₂ = tail-put (4 * n) s₁ x₁ ∙ ap₂ (λ (u v : List ℕ). u ++ v) head₁ sorted₁
+      answered₂ : r ≡ answer (boundaryNumber (tets n s₂)) (length (gathered n s₂))
+      answered₂ = g .result ∙ ap (λ (k : ℕ). answer k (length (gathered n s₂))) (area-number n s₂ area₂)
 
-      long₂ : length s₂ ≡ length s₀
-      long₂ =
-          ap length put₂ ∙ length-append (take (4 * n) s₀) (sortedArea (4 * n) 4 (drop (4 * n) s₁))
-          ∙ omega (arith, head-long, length-sorted (4 * n) 4 (drop (4 * n) s₁), length-drop (4 * n) s₁, long₁, room)
+      answered : r ≡ answerOf (tets n s₀)
+      unfolding answerOf
+      answered =
+          answered₂ ∙ answer-same (boundaryNumber (tets n s₂)) (length (gathered n s₂)) (length (boundaryOf (tets n s₂))) (area-count n s₂ area₂)
+          ∙ ap (λ (ts : List Tet). answer (boundaryNumber ts) (length (boundaryOf ts))) elements₂
 
-      head₂ : take (4 * n) s₂ ≡ take (4 * n) s₀
-      head₂ = ap (take (4 * n)) put₂ ∙ take-at (take (4 * n) s₀) (sortedArea (4 * n) 4 (drop (4 * n) s₁)) (4 * n) head-long
+      -- the triples that stand behind the elements
+      record Found (c : ℕ) : Type 0 where
+        pub list : List Triple
+        pub size : length list ≡ c
+        pub front : take (4 * n + 3 * c) s₃ ≡ take (4 * n) s₀ ++ flat (map cornersOf list)
+        pub words : flat (map cornersOf (sort leTriple list)) ≡ surfaceWords (tets n s₀)
 
-      area₂ : faceArea n s₂ ≡ sort leRow (faceRows n s₂)
-      area₂ =
-          ap (rows 4 (4 * n)) (ap (drop (4 * n)) put₂ ∙ drop-at (take (4 * n) s₀) (sortedArea (4 * n) 4 (drop (4 * n) s₁)) (4 * n) head-long)
-          ∙ rows-sorted (4 * n) 4 (drop (4 * n) s₁) (fit-rows (4 * n + 4 * n) 4 (length (drop (4 * n) s₁)) (omega arith) (omega (arith, length-drop (4 * n) s₁, long₁, room)))
-          ∙ ap (sort leRow) (listed ∙ rows-kept n s₀ s₂ (sym head₂))
+      found : (c : ℕ) → c ≡ triplesOf r → Found c
+      unfolding flat sort
+      found c e = go (boundaryNumber (tets n s₂)) refl
+        where
+          go : (k : ℕ) → boundaryNumber (tets n s₂) ≡ k → Found c
+          go zero z =
+              let q : length (gathered n s₂) ≡ c = sym (e ∙ ap triplesOf (answered₂ ∙ ap (λ (i : ℕ). answer i (length (gathered n s₂))) z) ∙ answer-zero (length (gathered n s₂))) in
+              record {
+                list = gathered n s₂;
+                size = q;
+                front = ap (λ (i : ℕ). take (4 * n + 3 * i) s₃) (sym q) ∙ g .front ∙ ap (λ (u : List ℕ). u ++ flat (map cornersOf (gathered n s₂))) head₂;
+                words = ap (λ (l : List Triple). flat (map cornersOf l)) (area-surface n s₂ area₂ z) ∙ sym (words-good (tets n s₂) z) ∙ ap surfaceWords elements₂;
+              }
+          go (suc k) z =
+              let q : 0 ≡ c = sym (e ∙ ap triplesOf (answered₂ ∙ ap (λ (i : ℕ). answer i (length (gathered n s₂))) z) ∙ answer-bad k (length (gathered n s₂))) in
+              let j : 4 * n + 3 * c ≡ 4 * n = omega (arith, q) in
+              record {
+                list = [];
+                size = q;
+                front =
+                    ap (λ (i : ℕ). take i s₃) j ∙ sym (take-take (4 * n) (4 * n + 3 * length (gathered n s₂)) s₃ (omega arith)) ∙ ap (take (4 * n)) (g .front)
+                    ∙ take-at (take (4 * n) s₂) (flat (map cornersOf (gathered n s₂))) (4 * n) (length-take-le (4 * n) s₂ (omega (arith, long₂, room)))
+                    ∙ head₂ ∙ sym (append-nil (take (4 * n) s₀));
+                words = sym (words-bad (tets n s₂) k z) ∙ ap surfaceWords elements₂;
+              }
 
-      pub rows-stand : FaceArea n s₂
-      rows-stand = record {
-        few = fits-few n (length s₀) fits;
-        room = omega (arith, room, long₂);
-        known = ap (λ (u : List (List ℕ)). Rattle.mesh.specs.Tests.every (λ r. ltb (getD r 3 0) (4 * n)) u) area₂ ∙ rows-known n s₂;
-      }
+      module _ (c : ℕ) (ec : c ≡ triplesOf r) where
+        few-found : c ≤ 4 * n
+        few-found = omega (arith, ec, ap triplesOf answered, triples-few n s₀)
 
-      elements₂ : tets n s₂ ≡ tets n s₀
-      elements₂ = tets-kept n s₂ s₀ head₂
+        long-words : length (surfaceWords (tets n s₀)) ≡ 3 * c
+        long-words = words-count (tets n s₀) ∙ ap (λ (i : ℕ). 3 * i) (sym (ec ∙ ap triplesOf answered))
 
-      -- and gathered
-      module _ (s₃ : List ℕ) (r : Outcome) (long₃ : length s₃ ≡ length s₂) (g : Gathered n s₂ s₃ r) where
-        pub part-room₂ : (n ≤ 65536) × (4 * n ≤ length s₃)
-        part-room₂ = (fits-few n (length s₀) fits, omega (arith, long₃, long₂, room))
+        head₃ : take (4 * n) s₃ ≡ take (4 * n) s₀
+        head₃ =
+            sym (take-take (4 * n) (4 * n + 3 * c) s₃ (omega arith)) ∙ ap (take (4 * n)) (found c ec .front)
+            ∙ take-at (take (4 * n) s₀) (flat (map cornersOf (found c ec .list))) (4 * n) head-long
 
-        answered₂ : r ≡ answer (boundaryNumber (tets n s₂)) (length (gathered n s₂))
-        answered₂ = g .result ∙ ap (λ (k : ℕ). answer k (length (gathered n s₂))) (area-number n s₂ area₂)
+        gathered-words : take (c * 3) (drop (4 * n) s₃) ≡ flat (map cornersOf (found c ec .list))
+        gathered-words =
+            let q : c * 3 ≡ 3 * c = omega arith in
+            ap (λ (i : ℕ). take i (drop (4 * n) s₃)) q
+            ∙ sym (drop-at (take (4 * n) s₃) (take (3 * c) (drop (4 * n) s₃)) (4 * n) (length-take-le (4 * n) s₃ (omega (arith, long₃, long₂, room))))
+            ∙ ap (drop (4 * n)) (sym (take-add (4 * n) (3 * c) s₃) ∙ found c ec .front)
+            ∙ drop-at (take (4 * n) s₀) (flat (map cornersOf (found c ec .list))) (4 * n) head-long
 
-        answered : r ≡ answerOf (tets n s₀)
-        unfolding answerOf
-        answered =
-            answered₂ ∙ answer-same (boundaryNumber (tets n s₂)) (length (gathered n s₂)) (length (boundaryOf (tets n s₂))) (area-count n s₂ area₂)
-            ∙ ap (λ (ts : List Tet). answer (boundaryNumber ts) (length (boundaryOf ts))) elements₂
+        gathered-rows : rows 3 c (drop (4 * n) s₃) ≡ map cornersOf (found c ec .list)
+        gathered-rows =
+            let l = found c ec .list in
+            let w = flat (map cornersOf l) in
+            rows-words 3 c (drop (4 * n) s₃) w (gathered-words ∙ sym (take-all (c * 3) w (omega (arith, length-triples l, found c ec .size))))
+            ∙ ap (rows 3 c) (sym (append-nil w)) ∙ ap (λ (i : ℕ). rows 3 i (w ++ [])) (sym (found c ec .size)) ∙ rows-flat (shape-corners l) []
 
-        -- the triples that stand behind the elements
-        record Found (c : ℕ) : Type 0 where
-          pub list : List Triple
-          pub size : length list ≡ c
-          pub front : take (4 * n + 3 * c) s₃ ≡ take (4 * n) s₀ ++ flat (map cornersOf list)
-          pub words : flat (map cornersOf (sort leTriple list)) ≡ surfaceWords (tets n s₀)
+        sorted-words : flat (sort leRow (rows 3 c (drop (4 * n) s₃))) ≡ surfaceWords (tets n s₀)
+        sorted-words = ap flat (ap (sort leRow) gathered-rows ∙ sort-corners (found c ec .list)) ∙ found c ec .words
 
-        found : (c : ℕ) → c ≡ triplesOf r → Found c
-        unfolding flat sort
-        found c e = go (boundaryNumber (tets n s₂)) refl
-          where
-            go : (k : ℕ) → boundaryNumber (tets n s₂) ≡ k → Found c
-            go zero z =
-                let q : length (gathered n s₂) ≡ c = sym (e ∙ ap triplesOf (answered₂ ∙ ap (λ (i : ℕ). answer i (length (gathered n s₂))) z) ∙ answer-zero (length (gathered n s₂))) in
-                record {
-                  list = gathered n s₂;
-                  size = q;
-                  front = ap (λ (i : ℕ). take (4 * n + 3 * i) s₃) (sym q) ∙ g .front ∙ ap (λ (u : List ℕ). u ++ flat (map cornersOf (gathered n s₂))) head₂;
-                  words = ap (λ (l : List Triple). flat (map cornersOf l)) (area-surface n s₂ area₂ z) ∙ sym (words-good (tets n s₂) z) ∙ ap surfaceWords elements₂;
-                }
-            go (suc k) z =
-                let q : 0 ≡ c = sym (e ∙ ap triplesOf (answered₂ ∙ ap (λ (i : ℕ). answer i (length (gathered n s₂))) z) ∙ answer-bad k (length (gathered n s₂))) in
-                let j : 4 * n + 3 * c ≡ 4 * n = omega (arith, q) in
-                record {
-                  list = [];
-                  size = q;
-                  front =
-                      ap (λ (i : ℕ). take i s₃) j ∙ sym (take-take (4 * n) (4 * n + 3 * length (gathered n s₂)) s₃ (omega arith)) ∙ ap (take (4 * n)) (g .front)
-                      ∙ take-at (take (4 * n) s₂) (flat (map cornersOf (gathered n s₂))) (4 * n) (length-take-le (4 * n) s₂ (omega (arith, long₂, room)))
-                      ∙ head₂ ∙ sym (append-nil (take (4 * n) s₀));
-                  words = sym (words-bad (tets n s₂) k z) ∙ ap surfaceWords elements₂;
-                }
+        -- and sorted again
+        module _ (x₂ : List ℕ) (f₂ : x₂ ≡ sortedArea c 3 (midOf (4 * n) (length s₃ - 4 * n) s₃)) where
+          abbrev s₄ : List ℕ
+          s₄ = putMid (4 * n) (length s₃ - 4 * n) s₃ x₂
 
-        module _ (c : ℕ) (ec : c ≡ triplesOf r) where
-          few-found : c ≤ 4 * n
-          few-found = omega (arith, ec, ap triplesOf answered, triples-few n s₀)
+          rest : List ℕ
+          rest = replicate (c * 3) 0 ++ drop (c * 3 + c * 3) (drop (4 * n) s₃)
 
-          long-words : length (surfaceWords (tets n s₀)) ≡ 3 * c
-          long-words = words-count (tets n s₀) ∙ ap (λ (i : ℕ). 3 * i) (sym (ec ∙ ap triplesOf answered))
+          sorted₂ : x₂ ≡ surfaceWords (tets n s₀) ++ rest
+          unfolding rest
+          sorted₂ =
+              f₂ ∙ ap (sortedArea c 3) (tail-mid (4 * n) s₃)
+              ∙ area-is c 3 (drop (4 * n) s₃) (fit-rows (c + c) 3 (length (drop (4 * n) s₃)) (omega arith) (omega (arith, length-drop (4 * n) s₃, long₃, long₂, room, few-found)))
+              ∙ ap (λ (u : List ℕ). u ++ rest) sorted-words
 
-          head₃ : take (4 * n) s₃ ≡ take (4 * n) s₀
-          head₃ =
-              sym (take-take (4 * n) (4 * n + 3 * c) s₃ (omega arith)) ∙ ap (take (4 * n)) (found c ec .front)
-              ∙ take-at (take (4 * n) s₀) (flat (map cornersOf (found c ec .list))) (4 * n) head-long
+          put₄ : s₄ ≡ (take (4 * n) s₀ ++ surfaceWords (tets n s₀)) ++ rest
+          put₄ = tail-put (4 * n) s₃ x₂ ∙ ap₂ (λ (u v : List ℕ). u ++ v) head₃ sorted₂ ∙ sym (append-assoc (take (4 * n) s₀) (surfaceWords (tets n s₀)) rest)
 
-          gathered-words : take (c * 3) (drop (4 * n) s₃) ≡ flat (map cornersOf (found c ec .list))
-          gathered-words =
-              let q : c * 3 ≡ 3 * c = omega arith in
-              ap (λ (i : ℕ). take i (drop (4 * n) s₃)) q
-              ∙ sym (drop-at (take (4 * n) s₃) (take (3 * c) (drop (4 * n) s₃)) (4 * n) (length-take-le (4 * n) s₃ (omega (arith, long₃, long₂, room))))
-              ∙ ap (drop (4 * n)) (sym (take-add (4 * n) (3 * c) s₃) ∙ found c ec .front)
-              ∙ drop-at (take (4 * n) s₀) (flat (map cornersOf (found c ec .list))) (4 * n) head-long
+          long₄ : length s₄ ≡ length s₀
+          long₄ =
+              ap length (tail-put (4 * n) s₃ x₂) ∙ length-append (take (4 * n) s₃) x₂
+              ∙ omega (arith, length-take-le (4 * n) s₃ (omega (arith, long₃, long₂, room)), ap length (f₂ ∙ ap (sortedArea c 3) (tail-mid (4 * n) s₃)), length-sorted c 3 (drop (4 * n) s₃), length-drop (4 * n) s₃, long₃, long₂, room)
 
-          gathered-rows : rows 3 c (drop (4 * n) s₃) ≡ map cornersOf (found c ec .list)
-          gathered-rows =
-              let l = found c ec .list in
-              let w = flat (map cornersOf l) in
-              rows-words 3 c (drop (4 * n) s₃) w (gathered-words ∙ sym (take-all (c * 3) w (omega (arith, length-triples l, found c ec .size))))
-              ∙ ap (rows 3 c) (sym (append-nil w)) ∙ ap (λ (i : ℕ). rows 3 i (w ++ [])) (sym (found c ec .size)) ∙ rows-flat (shape-corners l) []
+          pub end-room : (n ≤ 65536) × (c ≤ 4 * n) × (4 * n + 3 * c ≤ length s₄)
+          end-room = (fits-few n (length s₀) fits, few-found, omega (arith, few-found, long₄, room))
 
-          sorted-words : flat (sort leRow (rows 3 c (drop (4 * n) s₃))) ≡ surfaceWords (tets n s₀)
-          sorted-words = ap flat (ap (sort leRow) gathered-rows ∙ sort-corners (found c ec .list)) ∙ found c ec .words
+          front-long : length (take (4 * n) s₀ ++ surfaceWords (tets n s₀)) ≡ 4 * n + 3 * c
+          front-long = omega (arith, length-append (take (4 * n) s₀) (surfaceWords (tets n s₀)), head-long, long-words)
 
-          -- and sorted again
-          module _ (x₂ : List ℕ) (f₂ : x₂ ≡ sortedArea c 3 (midOf (4 * n) (length s₃ - 4 * n) s₃)) where
-            abbrev s₄ : List ℕ
-            s₄ = putMid (4 * n) (length s₃ - 4 * n) s₃ x₂
-
-            rest : List ℕ
-            rest = replicate (c * 3) 0 ++ drop (c * 3 + c * 3) (drop (4 * n) s₃)
-
-            sorted₂ : x₂ ≡ surfaceWords (tets n s₀) ++ rest
-            unfolding rest
-            sorted₂ =
-                f₂ ∙ ap (sortedArea c 3) (tail-mid (4 * n) s₃)
-                ∙ area-is c 3 (drop (4 * n) s₃) (fit-rows (c + c) 3 (length (drop (4 * n) s₃)) (omega arith) (omega (arith, length-drop (4 * n) s₃, long₃, long₂, room, few-found)))
-                ∙ ap (λ (u : List ℕ). u ++ rest) sorted-words
-
-            put₄ : s₄ ≡ (take (4 * n) s₀ ++ surfaceWords (tets n s₀)) ++ rest
-            put₄ = tail-put (4 * n) s₃ x₂ ∙ ap₂ (λ (u v : List ℕ). u ++ v) head₃ sorted₂ ∙ sym (append-assoc (take (4 * n) s₀) (surfaceWords (tets n s₀)) rest)
-
-            long₄ : length s₄ ≡ length s₀
-            long₄ =
-                ap length (tail-put (4 * n) s₃ x₂) ∙ length-append (take (4 * n) s₃) x₂
-                ∙ omega (arith, length-take-le (4 * n) s₃ (omega (arith, long₃, long₂, room)), ap length (f₂ ∙ ap (sortedArea c 3) (tail-mid (4 * n) s₃)), length-sorted c 3 (drop (4 * n) s₃), length-drop (4 * n) s₃, long₃, long₂, room)
-
-            pub end-room : (n ≤ 65536) × (c ≤ 4 * n) × (4 * n + 3 * c ≤ length s₄)
-            end-room = (fits-few n (length s₀) fits, few-found, omega (arith, few-found, long₄, room))
-
-            front-long : length (take (4 * n) s₀ ++ surfaceWords (tets n s₀)) ≡ 4 * n + 3 * c
-            front-long = omega (arith, length-append (take (4 * n) s₀) (surfaceWords (tets n s₀)), head-long, long-words)
-
-            -- and cleared
-            pub filled : (z : List ℕ) → z ≡ zeroWords (length (midOf (4 * n + 3 * c) (length s₄ - (4 * n + 3 * c)) s₄))
-                → _≡_ {A = Filled} (record { answer = r; area = putMid (4 * n + 3 * c) (length s₄ - (4 * n + 3 * c)) s₄ z }) (boundaryIn n s₀)
-            unfolding boundaryIn
-            filled z e =
-                let w = surfaceWords (tets n s₀) in
-                let k : length (drop (4 * n + 3 * c) s₄) ≡ length s₀ - (4 * n + length w) = omega (arith, length-drop (4 * n + 3 * c) s₄, long₄, long-words) in
-                let a : putMid (4 * n + 3 * c) (length s₄ - (4 * n + 3 * c)) s₄ z ≡ take (4 * n) s₀ ++ (w ++ zeroWords (length s₀ - (4 * n + length w))) =
-                tail-put (4 * n + 3 * c) s₄ z
-                ∙ ap₂ (λ (u v : List ℕ). u ++ v) (ap (take (4 * n + 3 * c)) put₄ ∙ take-at (take (4 * n) s₀ ++ w) rest (4 * n + 3 * c) front-long)
-                (e ∙ ap (λ (u : List ℕ). zeroWords (length u)) (tail-mid (4 * n + 3 * c) s₄) ∙ ap zeroWords k)
-                ∙ append-assoc (take (4 * n) s₀) w (zeroWords (length s₀ - (4 * n + length w))) in
-                ap₂ (λ (u : Outcome) (v : List ℕ). record { answer = u; area = v }) answered a ∙ rw fits
+          -- and cleared
+          pub filled : (z : List ℕ) → z ≡ zeroWords (length (midOf (4 * n + 3 * c) (length s₄ - (4 * n + 3 * c)) s₄))
+              → _≡_ {A = Filled} (record { answer = r; area = putMid (4 * n + 3 * c) (length s₄ - (4 * n + 3 * c)) s₄ z }) (boundaryIn n s₀)
+          unfolding boundaryIn
+          filled z e =
+              let w = surfaceWords (tets n s₀) in
+              let k : length (drop (4 * n + 3 * c) s₄) ≡ length s₀ - (4 * n + length w) = omega (arith, length-drop (4 * n + 3 * c) s₄, long₄, long-words) in
+              let a : putMid (4 * n + 3 * c) (length s₄ - (4 * n + 3 * c)) s₄ z ≡ take (4 * n) s₀ ++ (w ++ zeroWords (length s₀ - (4 * n + length w))) =
+              tail-put (4 * n + 3 * c) s₄ z
+              ∙ ap₂ (λ (u v : List ℕ). u ++ v) (ap (take (4 * n + 3 * c)) put₄ ∙ take-at (take (4 * n) s₀ ++ w) rest (4 * n + 3 * c) front-long)
+              (e ∙ ap (λ (u : List ℕ). zeroWords (length u)) (tail-mid (4 * n + 3 * c) s₄) ∙ ap zeroWords k)
+              ∙ append-assoc (take (4 * n) s₀) w (zeroWords (length s₀ - (4 * n + length w))) in
+              ap₂ (λ (u : Outcome) (v : List ℕ). record { answer = u; area = v }) answered a ∙ rw fits
