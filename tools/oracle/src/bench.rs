@@ -98,12 +98,11 @@ fn call(pass: Pass, block: &Block, n: usize) -> Call {
     }
 }
 
-fn port(start: &Mesh, call: &Call) -> (Duration, Answer) {
-    let mut mesh = start.clone();
+fn port(mesh: &mut Mesh, call: &Call) -> (Duration, Answer) {
     let mut words = vec![1; call.words];
     let mut floats = vec![1.; call.floats];
     let clock = Instant::now();
-    let given = passes::port(&mut mesh, call, &mut words, &mut floats);
+    let given = passes::port(mesh, call, &mut words, &mut floats);
     (clock.elapsed(), given)
 }
 
@@ -116,11 +115,13 @@ fn intake(mesh: &Mesh, call: &Call) -> (Duration, u32) {
 }
 
 /// The pass alone, without intake and buffers.
-fn original(mesh: &Mesh, call: &Call) -> (Duration, Option<usize>) {
+fn original(mesh: &Mesh, call: &Call) -> Duration {
     let mut body = shell::body(mesh);
     let clock = Instant::now();
     let given = (DOC01.pass)(call.pass as usize, &mut body, &call.setting(), &call.fields, None);
-    (clock.elapsed(), given.ok())
+    let time = clock.elapsed();
+    assert!(given.is_ok(), "the original refused");
+    time
 }
 
 /// The shortest times of the port, of its intake and of the original, which take turns.
@@ -130,24 +131,25 @@ struct Times {
     original: Duration,
 }
 
-/// One mesh, one pass: the times, and how much the pass changed, which both sides must agree on.
+/// One mesh, one pass: the times, and how much the pass changed. Both sides must agree in the answer and in every place of the mesh.
 fn measure(mesh: &Mesh, call: &Call, runs: u64) -> (Times, usize) {
+    let mut told = mesh.clone();
+    let answer = shell::run(&DOC01, &mut told, call);
+    let Answer::Done(changed, _) = answer else { panic!("the original refused: {answer:?}") };
     let mut best = Times {
         port: Duration::MAX,
         intake: Duration::MAX,
         original: Duration::MAX,
     };
-    let mut changed = 0;
     for _ in 0..runs {
-        let (ours, given) = port(mesh, call);
-        let (taken, number) = intake(mesh, call);
-        let (theirs, count) = original(mesh, call);
-        let Answer::Done(n, _) = given else { panic!("the port refused: {given:?}") };
-        assert_eq!((number, Some(n)), (0, count), "the two sides differ");
+        let mut made = mesh.clone();
+        let (ours, given) = port(&mut made, call);
+        let (taken, _) = intake(mesh, call);
+        let theirs = original(mesh, call);
+        assert!(given == answer && made.same(&told), "the two sides differ");
         best.port = best.port.min(ours);
         best.intake = best.intake.min(taken);
         best.original = best.original.min(theirs);
-        changed = n;
     }
     (best, changed)
 }
