@@ -8,10 +8,9 @@
 //  5 two elements on one side of a face
 //  6 two elements that meet in one vertex
 // 23 does not come from `plot`: it computes the surface that `flip` is given.
-use crate::passes::put_corner;
-use crate::passes::put_point;
-use crate::passes::put_tet;
-use crate::passes::put_touching;
+use crate::meshes::put_elements;
+use crate::meshes::put_points;
+use crate::meshes::sizes;
 use crate::show::bits;
 use crate::show::number;
 use crate::show::text;
@@ -180,64 +179,6 @@ const EDITS: [u64; 120] = [
     0x0000_0001,
 ];
 
-// The example's element, and two more vertices on that side of its face 0 1 2.
-fn put_side(points: &mut [f64], elements: &mut [u32]) {
-    put_corner(points, 1.0);
-    put_point(points, 4, 0.25, 0.25, 0.5);
-    put_point(points, 5, 0.25, 0.25, 1.0);
-    put_tet(elements, 0, 0, 1, 2, 3);
-    put_tet(elements, 1, 0, 1, 2, 4);
-    put_tet(elements, 2, 0, 1, 2, 5);
-}
-
-fn put_mesh(mesh: u32, points: &mut [f64], elements: &mut [u32]) {
-    if mesh == 6 {
-        return put_touching(points, elements);
-    }
-    put_side(points, elements);
-    if mesh == 2 {
-        return put_tet(elements, 0, 0, 1, 3, 2);
-    }
-    if mesh == 3 {
-        put_tet(elements, 1, 1, 2, 0, 3);
-    }
-}
-
-fn vertices(mesh: u32) -> usize {
-    if mesh == 1 {
-        return 0;
-    }
-    if mesh == 4 {
-        return 6;
-    }
-    if mesh == 5 {
-        return 5;
-    }
-    if mesh == 6 {
-        return 7;
-    }
-    4
-}
-
-fn elements(mesh: u32) -> usize {
-    if mesh == 1 {
-        return 0;
-    }
-    if mesh == 4 {
-        return 3;
-    }
-    if mesh == 3 {
-        return 2;
-    }
-    if mesh == 5 {
-        return 2;
-    }
-    if mesh == 6 {
-        return 2;
-    }
-    1
-}
-
 // The box from -1 on for the mesh that needs it, else from 0 on.
 fn options(mesh: u32) -> Options {
     let low = if mesh == 6 { -1.0 } else { 0.0 };
@@ -263,14 +204,17 @@ fn options(mesh: u32) -> Options {
 fn put_file(mesh: u32, file: &mut [u8]) -> usize {
     let mut points = [0.0; 21];
     let mut corners = [0u32; 12];
-    put_mesh(mesh, &mut points, &mut corners);
+    let row = 16 + (mesh as usize);
+    let z = sizes(row);
+    put_points(row, &mut points);
+    put_elements(row, &mut corners);
     let f = Field::Level(0.5);
     write_file(
         options(mesh),
         1,
         [f, f, f, f, f, f, f, f],
-        vertices(mesh),
-        elements(mesh),
+        z.vertices,
+        z.elements,
         &points,
         &points,
         &[0u32; 7],

@@ -5,6 +5,7 @@
 // 16 (11), 4 a NaN coordinate (12), 8 an element with the vertex 9 (13), 16 an element with the vertices
 // 1 0 3 2 (14), 32 a flat element (15), 64 a third element on the face 0 1 2 (16), 128 an element on the
 // face 1 2 3 from the same side (17).
+use crate::meshes::put_points;
 use crate::show::bits;
 use crate::show::number;
 use crate::show::of;
@@ -20,6 +21,9 @@ use mesh::words::put_float;
 use mesh::words::put_word;
 ghost use Prim.Native.Nat.{_+_, _≤_, _<_};
 ghost use lib.ListN.{length};
+
+// The row of the mesh's points in the table: all but the last vertex.
+const MESH: usize = 24;
 
 // What a call is tried with: the sizes, the lengths of the slices, the faults, the pattern of the last
 // vertex's coordinate, and a second element in place of 0 2 1 4 (its four vertices as decimal digits).
@@ -49,22 +53,6 @@ fn count_words(n: usize, s: &[u32]) -> usize
     ensures { λ r. ⌜ r ≤ length (now (s .entry)) ⌝ }
 {
     if n < s.len() { n } else { s.len() }
-}
-
-fn put_point(points: &mut [f64], v: usize, x: f64, y: f64, z: f64)
-    requires { ⌜ v < 1000 ⌝ }
-{
-    put_float(points, 3 * v, x);
-    put_float(points, 3 * v + 1, y);
-    put_float(points, 3 * v + 2, z);
-}
-
-fn fill_points(points: &mut [f64]) {
-    put_point(points, 1, 1.0, 0.0, 0.0);
-    put_point(points, 2, 0.0, 1.0, 0.0);
-    put_point(points, 3, 0.0, 0.0, 1.0);
-    put_point(points, 4, 0.0, 0.0, -1.0);
-    put_point(points, 5, -1.0, -1.0, -1.0);
 }
 
 fn put_tet(elements: &mut [u32], e: usize, a: u32, b: u32, c: u32, d: u32)
@@ -217,7 +205,7 @@ fn tried(t: Trial) -> u32 {
     let surface = [0u32; 96];
     let mut work = [7u32; 134000];
     let floats = [0.0; 65600];
-    fill_points(&mut points);
+    put_points(MESH, &mut points);
     put_float(&mut points, 18, of(t.coordinate));
     fill_elements(&mut elements, t.faults, t.second);
     fronts(

@@ -4,6 +4,7 @@ mod boxes;
 mod fields;
 mod flips;
 mod intakes;
+mod meshes;
 mod moves;
 mod passes;
 mod ranks;

@@ -1,15 +1,13 @@
 // `smooth` where vertices move: a corner of side 4, cut into four at a vertex close to its face 0 1 2. Where there is a field, it is the level through
 // that vertex, and the vertex is on it. Each line has the number of fields, the regions (0 none, 1 an empty list, 2 a list of one), the answer, 1 for
 // each work slice of zeros, 1 where parameters are the points and all else holds what it held, and the points with three places past the count.
-use crate::passes::all_floats;
+use crate::meshes::put_elements;
+use crate::meshes::put_points;
+use crate::meshes::sizes;
 use crate::passes::all_words;
 use crate::passes::options;
-use crate::passes::put_corner;
-use crate::passes::put_point;
-use crate::passes::put_tet;
-use crate::passes::show_answer;
+use crate::passes::show_given;
 use crate::passes::show_whether;
-use crate::passes::sized;
 use crate::show::float;
 use crate::show::number;
 use crate::show::text;
@@ -17,17 +15,8 @@ use geometry::field::Field;
 use mesh::words::float as float_at;
 use repair::smooth::smooth;
 
-fn put_points(points: &mut [f64]) {
-    put_corner(points, 4.0);
-    put_point(points, 4, 1.0, 1.0, 0.0625);
-}
-
-fn put_elements(elements: &mut [u32]) {
-    put_tet(elements, 0, 4, 1, 2, 3);
-    put_tet(elements, 1, 0, 4, 2, 3);
-    put_tet(elements, 2, 0, 1, 4, 3);
-    put_tet(elements, 3, 0, 1, 2, 4);
-}
+// The mesh's row of the table.
+const MESH: usize = 23;
 
 fn show_floats(x: &[f64]) {
     let mut i = 0;
@@ -75,7 +64,7 @@ fn call(
     let mut floats = [7.0; 80];
     let f = Field::Level(0.0625);
     let given = smooth(
-        sized(5, 4, 4),
+        sizes(MESH),
         options(1),
         fields,
         [f, f, f, f, f, f, f, f],
@@ -89,9 +78,7 @@ fn call(
         &mut work,
         &mut floats,
     );
-    show_answer(given);
-    show_whether(all_words(&work, 0, 0));
-    show_whether(all_floats(&floats, 0, 0.0));
+    show_given(given, &work, &floats);
 }
 
 // Makes the call on the mesh, and shows what it leaves.
@@ -101,9 +88,9 @@ fn shown(fields: u32, listed: bool, regions: &[u32]) {
     let mut masks = [0u32, 0, 0, 0, 1];
     let mut elements = [7u32; 34];
     let mut surface = [5u32; 50];
-    put_points(&mut parameters);
-    put_points(&mut points);
-    put_elements(&mut elements);
+    put_points(MESH, &mut parameters);
+    put_points(MESH, &mut points);
+    put_elements(MESH, &mut elements);
     call(
         fields,
         listed,
