@@ -282,7 +282,49 @@ fn same_sizes(text: &[u8], at: usize, z: Sizes) -> bool {
     z.triples as u64 == number_ahead(text, at, 2)
 }
 
-// Runs the call k, which stands at `at`. Whether it gives the stored answer and leaves zeros in both work slices, which hold other things before.
+// Whether both hold.
+pub(crate) fn both(a: bool, b: bool) -> bool {
+    if a { b } else { false }
+}
+
+// Whether the call k with this box, these fields and n of these regions gives the stored answer and leaves zeros in both work slices, which hold other
+// things before.
+fn runs(
+    text: &[u8],
+    k: Call,
+    o: Options,
+    f: [Field; 8],
+    z: Sizes,
+    regions: &[u32],
+    n: usize,
+    parameters: &mut [f64],
+    points: &mut [f64],
+    masks: &mut [u32],
+    elements: &mut [u32],
+    surface: &mut [u32],
+) -> bool {
+    let mut work = [7u32; 8192];
+    let mut floats = [7.0; 320];
+    let given = run_on(
+        k,
+        o,
+        f,
+        z,
+        regions,
+        n,
+        parameters,
+        points,
+        masks,
+        elements,
+        surface,
+        &mut work,
+        &mut floats,
+    );
+    let clear = cleared(k, &work, &floats);
+    both(clear, same_answer(text, k.at, given))
+}
+
+// The same for the call k, which stands at `at`, with the box, fields and regions that it states.
 pub(crate) fn answered(
     text: &[u8],
     at: usize,
@@ -294,11 +336,10 @@ pub(crate) fn answered(
     elements: &mut [u32],
     surface: &mut [u32],
 ) -> bool {
-    let mut work = [7u32; 8192];
-    let mut floats = [7.0; 320];
     let mut regions = [0u32; 8];
     load_words(text, ahead(text, k.regions, 1), 16, &mut regions);
-    let given = run_on(
+    runs(
+        text,
         k,
         options(text, at),
         fields(text, k),
@@ -310,11 +351,5 @@ pub(crate) fn answered(
         masks,
         elements,
         surface,
-        &mut work,
-        &mut floats,
-    );
-    if !cleared(k, &work, &floats) {
-        return false;
-    }
-    same_answer(text, k.at, given)
+    )
 }

@@ -11,6 +11,7 @@ use crate::buffers::same_words;
 use crate::call::Call;
 use crate::call::PASSES;
 use crate::call::answered;
+use crate::call::both;
 use crate::call::read_call;
 use crate::text::ahead;
 use crate::text::byte;
@@ -121,28 +122,23 @@ fn load_answer(
     }
 }
 
-// Whether the five buffers hold what the answer at the word `answer` leaves of these others.
-fn same_mesh(
-    text: &[u8],
-    at: usize,
-    parameters: &[f64],
-    points: &[f64],
-    masks: &[u32],
-    elements: &[u32],
-    surface: &[u32],
-    p: &mut [f64],
-    q: &mut [f64],
-    m: &mut [u32],
-    e: &mut [u32],
-    t: &mut [u32],
-) -> bool {
-    load_answer(text, at, p, q, m, e, t);
+// Whether the float buffers hold the same as these others.
+fn same_coordinates(parameters: &[f64], points: &[f64], p: &[f64], q: &[f64]) -> bool {
     if !same_floats(parameters, p) {
         return false;
     }
-    if !same_floats(points, q) {
-        return false;
-    }
+    same_floats(points, q)
+}
+
+// Whether the word buffers hold the same as these others.
+fn same_numbers(
+    masks: &[u32],
+    elements: &[u32],
+    surface: &[u32],
+    m: &[u32],
+    e: &[u32],
+    t: &[u32],
+) -> bool {
     if !same_words(masks, m) {
         return false;
     }
@@ -172,6 +168,25 @@ fn copy_mesh(
     copy_into(surface, 0, t, 0, surface.len());
 }
 
+// Writes what the answer at the word `answer` leaves of the five buffers to these others.
+fn put_expected(
+    text: &[u8],
+    at: usize,
+    parameters: &[f64],
+    points: &[f64],
+    masks: &[u32],
+    elements: &[u32],
+    surface: &[u32],
+    p: &mut [f64],
+    q: &mut [f64],
+    m: &mut [u32],
+    e: &mut [u32],
+    t: &mut [u32],
+) {
+    copy_mesh(parameters, points, masks, elements, surface, p, q, m, e, t);
+    load_answer(text, at, p, q, m, e, t);
+}
+
 // Runs the call k, which stands at `at`. Whether it gives the stored answer and leaves what is stored.
 fn call_agrees(
     text: &[u8],
@@ -189,22 +204,7 @@ fn call_agrees(
     let mut m = [0u32; 32];
     let mut e = [0u32; 128];
     let mut t = [0u32; 192];
-    copy_mesh(
-        parameters,
-        points,
-        masks,
-        elements,
-        surface,
-        &mut p,
-        &mut q,
-        &mut m,
-        &mut e,
-        &mut t,
-    );
-    if !answered(text, at, k, z, parameters, points, masks, elements, surface) {
-        return false;
-    }
-    same_mesh(
+    put_expected(
         text,
         k.at,
         parameters,
@@ -217,7 +217,11 @@ fn call_agrees(
         &mut m,
         &mut e,
         &mut t,
-    )
+    );
+    let answer = answered(text, at, k, z, parameters, points, masks, elements, surface);
+    let floats = same_coordinates(parameters, points, &p, &q);
+    let words = same_numbers(masks, elements, surface, &m, &e, &t);
+    both(answer, both(floats, words))
 }
 
 // 1 where it is so.
