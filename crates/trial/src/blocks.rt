@@ -202,8 +202,8 @@ fn options(mesh: u32) -> Options {
 
 // Writes the mesh's file, and gives its length.
 fn put_file(mesh: u32, file: &mut [u8]) -> usize {
-    let mut points = [0.0; 21];
-    let mut corners = [0u32; 12];
+    let mut points = [7.0; 21];
+    let mut corners = [7u32; 12];
     let row = 16 + (mesh as usize);
     let z = sizes(row);
     put_points(row, &mut points);
