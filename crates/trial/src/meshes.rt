@@ -227,7 +227,7 @@ const MESHES: [[usize; 6]; 25] = [
     [73, 6, 0, 0, 0, 0],
 ];
 
-// The number k of a mesh's row, and 0 past the table.
+// The number k of a mesh's row, and 0 past the table. All are below 100: the remainder changes none, and gives the bound.
 fn entry(mesh: usize, k: usize) -> usize
     ensures { λ r. ⌜ r < 100 ⌝ }
 {
