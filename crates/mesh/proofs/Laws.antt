@@ -1,5 +1,6 @@
 -- Laws by subject.
 pub mod Bools
+pub mod Numbers
 pub mod Parts
 pub mod Sort
 pub mod Unique

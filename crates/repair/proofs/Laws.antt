@@ -1,4 +1,5 @@
 -- Laws by subject. `Wholeness` proves demand 3.
+pub mod Results
 pub mod Improve
 pub mod Smooth
 pub mod Flip

@@ -12,7 +12,7 @@ use lib.ListN.{length, take, drop, getD, set, replicate, length-take, length-dro
 use lib.Seq.{getD-take, getD-drop, getD-append-add, ext-getD, length-take-le, take-all, take-at, drop-at, paste, paste-suc, length-paste, length-paste-head}
 use borrow.Author.Tests.{ltb-true, ltb-false, le-leb, lt-leb, leb-true, leb-false}
 use borrow.Rule.Slice.PartMut.{midOf, postOf, putMid, take-put}
-use Rattle.mesh.specs.Words.{inside, copied}
+use Rattle.mesh.specs.Words.{wordAt, zeroWords, inside, copied}
 use Rattle.mesh.specs.Rows.{Off}
 
 -- one of two numbers is the lower
@@ -169,3 +169,21 @@ post-put {A} a k xs ys h e = ap (drop k) (drop-at (take a xs) (ys ++ postOf a k 
 -- a second part in place of the first
 pub put-put : {A : Type 0} (a k : ℕ) (xs ys zs : List A) → a ≤ length xs → length ys ≡ k → putMid a k (putMid a k xs ys) zs ≡ putMid a k xs zs
 put-put {A} a k xs ys zs h e = ap₂ (λ (u v : List A). u ++ (zs ++ v)) (take-put a k xs ys h) (post-put a k xs ys h e)
+
+-- ---- a part that reaches to the end
+
+pub tail-mid : (a : ℕ) (s : List ℕ) → midOf a (length s - a) s ≡ drop a s
+tail-mid a s = take-all (length s - a) (drop a s) (omega (arith, length-drop a s))
+
+pub tail-put : (a : ℕ) (s y : List ℕ) → putMid a (length s - a) s y ≡ take a s ++ y
+tail-put a s y =
+    ap (λ (u : List ℕ). take a s ++ (y ++ u)) (drop-of-length-le (drop a s) {i = length s - a} (omega (arith, length-drop a s)))
+    ∙ ap (λ (u : List ℕ). take a s ++ u) (append-nil y)
+
+-- ---- zeros
+
+-- what is read among zeros is zero
+pub zero-word : (n i : ℕ) → wordAt (zeroWords n) i ≡ 0
+zero-word zero i = refl
+zero-word (suc n) zero = refl
+zero-word (suc n) (suc i) = zero-word n i

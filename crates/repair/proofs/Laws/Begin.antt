@@ -6,12 +6,12 @@ use mathlib.Core.List.{List, [], _∷_, _++_, append-assoc}
 use Prim.Native.Nat.{ℕ, _+_, _-_, _*_, _≤_, _<_}
 use native.Mathlib.Omega.{arith}
 use lib.Dec.{eqb, ltb}
-use lib.ListN.{length, take, drop, getD-replicate, length-replicate, length-append, length-drop, List·getD-append, List·getD-eq-default}
+use lib.ListN.{length, take, drop, length-replicate, length-append, length-drop, List·getD-append, List·getD-eq-default}
 use lib.Seq.{take-at, length-take-le, getD-append-add, getD-take, getD-drop, ext-getD, paste}
 use borrow.Author.Tests.{le-leb, ne-eqb, ltb-true}
 use Rattle.mesh.proofs.Laws.Bools.{and-intro}
 use Rattle.mesh.proofs.Laws.Complex.Sets.{and-fst, and-snd, or-right}
-use Rattle.mesh.proofs.Laws.Parts.{side, into-is}
+use Rattle.mesh.proofs.Laws.Parts.{side, into-is, zero-word}
 use Rattle.mesh.proofs.Laws.Rows.{length-flat, shape-sort}
 use Rattle.mesh.proofs.Laws.Manifold.Fill.{shape-numbered}
 use Rattle.geometry.specs.declared.point.Point.{Point}
@@ -34,11 +34,6 @@ use Rattle.mesh.proofs.Laws.Star.Calls.{tets-same}
 use Rattle.repair.specs.Mesh.{Mesh}
 use Rattle.repair.specs.Layout.{Room, Stands, flagsAt, slotsIn, liveIn, slotOk}
 use Rattle.repair.proofs.Laws.Layout.{room-laid}
-
--- a word of zeros
-pub zero-word : (n j : ℕ) → wordAt (zeroWords n) j ≡ 0
-zero-word n j =
-    elim (side j n) [ inl h ↦ getD-replicate n j 0 0 h | inr h ↦ List·getD-eq-default (zeroWords n) 0 (omega (arith, length-replicate {A = ℕ} n 0)) ]
 
 -- a word of two lists one behind the other
 front-word : (s t : List ℕ) (j : ℕ) → j < length s → wordAt (s ++ t) j ≡ wordAt s j

@@ -21,7 +21,6 @@ use Rattle.mesh.specs.Star.{goneWord}
 use Rattle.mesh.specs.About as about
 use Rattle.mesh.proofs.Laws.Complex.Sets.{split, clash, or-cases, and-fst, and-snd}
 use Rattle.mesh.proofs.Laws.List.Bad.{keep-few}
-use Rattle.mesh.proofs.Laws.Star.Scan.{length-tets}
 use mathlib.Core.Logic.{inl, inr}
 use Rattle.mesh.proofs.Laws.About.Calls.{Copied, live-count, live-copied}
 use borrow.Author.Tests.{eq-eqb, eqb-true}
@@ -31,6 +30,7 @@ use Rattle.repair.specs.Layout.{Room, Stands, Reads, Ready, slotsIn, liv
 use Rattle.repair.specs.Finish.{EndArea, EndBuffers, improveEnd}
 use Rattle.repair.specs.Step.{State, meshOf, finish}
 use Rattle.repair.proofs.Laws.Layout.{room-laid}
+use Rattle.mesh.proofs.Laws.Intake.Reads.{length-tets}
 
 module _ (o : Options) (s : State) (x : Index) (many : x .vertices ≡ s .sizes .vertices) where
   abbrev n : ℕ

@@ -24,6 +24,7 @@ use Rattle.repair.specs.Round.{below, wayOf, MayPair}
 use Rattle.mesh.proofs.Laws.Complex.Sets.{clash, and-fst, and-snd, or-right}
 use Rattle.repair.proofs.Laws.Layout.{stands-kept}
 use Rattle.repair.proofs.Laws.Replace.Pairs.{length-pairs}
+use Rattle.repair.proofs.Laws.Gain.Judging.{pairs-same}
 use borrow.Author.Tests.{ltb-true, eq-eqb}
 
 -- the first of two same lists is the same
@@ -123,14 +124,6 @@ pub pairs-none : (k : ℕ) (s : List ℕ) → drop k (pairsOf k s) ≡ []
 unfolding pairsOf
 pairs-none zero s = refl
 pairs-none (suc k) s = pairs-none k (drop 2 s)
-
--- the same pairs where their words are the same
-pub pairs-same : (k : ℕ) (s t : List ℕ) → ((j : ℕ) → j < 2 * k → wordAt t j ≡ wordAt s j) → pairsOf k t ≡ pairsOf k s
-unfolding pairsOf
-pairs-same zero s t h = refl
-pairs-same (suc k) s t h =
-    ap₂ (λ (e : Pair) (l : List Pair). e ∷ l) (ap₂ pair (h 0 (omega arith)) (h 1 (omega arith)))
-    (pairs-same k (drop 2 s) (drop 2 t) (λ j g. getD-drop 2 t j 0 ∙ h (2 + j) (omega arith) ∙ sym (getD-drop 2 s j 0)))
 
 -- what is left of a list is in it
 pub among-drop : (e : Pair) (p : ℕ) (l r : List Pair) → drop p l ≡ e ∷ r → among samePair e l ≡ true

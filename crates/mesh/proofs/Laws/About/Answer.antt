@@ -21,13 +21,13 @@ use Rattle.mesh.proofs.Laws.Star.Layout.{room-is, room-yes}
 use Rattle.mesh.proofs.Laws.Star.Written.{length-written, written-below, written-more, written-none}
 use Rattle.mesh.proofs.Laws.Star.Chains.{length-kept}
 use Rattle.mesh.proofs.Laws.Star.Distinct.{distinct-is}
-use Rattle.mesh.proofs.Laws.Star.Scan.{length-tets}
 use Rattle.mesh.proofs.Laws.Star.Gathering.{slots-short, slots-same}
 use Rattle.mesh.proofs.Laws.Star.Found.{gather-out, gather-in, met-has, has-met}
 use Rattle.mesh.proofs.Laws.Star.Answers.{ordered-is, length-listed, listed-below, listed-part}
 use Rattle.mesh.proofs.Laws.Star.Calls.{Answered}
 use Rattle.mesh.proofs.Laws.Star.Numbers.{pass-out, pass-in, pass-rising, any-out, any-in}
 use Rattle.mesh.proofs.Laws.About.Members.{Next, members-first, members-none, members-next, clear-first, clear-next, clear-below, entries-first, slots-few}
+use Rattle.mesh.proofs.Laws.Intake.Reads.{length-tets}
 
 -- room for the star, as facts
 pub about-room : (x : Index) (s : List ℕ) (from count step : ℕ) → aboutRoom x s from count step ≡ true

@@ -18,12 +18,12 @@ use Rattle.mesh.specs.About.{hasOne, starAll, members, slotAt, wordsOf, 
 use Rattle.mesh.proofs.Laws.Complex.Sets.{mem-here, mem-there}
 use Rattle.mesh.proofs.Laws.Euler.Areas.{tets-flat}
 use Rattle.mesh.proofs.Laws.List.Bad.{keep-few}
-use Rattle.mesh.proofs.Laws.Star.Scan.{length-tets}
 use Rattle.mesh.proofs.Laws.Star.Written.{length-written, written-below, written-behind}
 use Rattle.mesh.proofs.Laws.Star.Calls.{Answered}
 use Rattle.mesh.proofs.Laws.Star.Numbers.{pass-elements, pass-below, pass-count, star-passes}
 use Rattle.mesh.proofs.Laws.About.Copies.{space-yes, length-words, slot-kept, slot-element}
 use Rattle.mesh.proofs.Laws.About.Loops.{live-yes}
+use Rattle.mesh.proofs.Laws.Intake.Reads.{length-tets}
 
 -- t is s with the elements ts at k, and the same elsewhere
 pub record Copied (s t : List ℕ) (k : ℕ) (ts : List Tet) : Type 0 where

@@ -17,9 +17,9 @@ use Rattle.mesh.specs.Element.{tet, tets, verticesOf}
 use Rattle.mesh.specs.Star.{goneTet, goneWord, cornerAt, Laid, written}
 use Rattle.mesh.specs.About.{slotAt, wordsOf, spaceFor, elementsIn, live, liveRoom, liveList, liveIn}
 use Rattle.mesh.proofs.Laws.Bools.{and-intro, and-left, and-right}
-use Rattle.mesh.proofs.Laws.Star.Scan.{length-tets}
 use Rattle.mesh.proofs.Laws.Star.Written.{written-none}
 use Rattle.mesh.proofs.Laws.About.Copies.{space-is, space-yes, paste-element, slot-is, slot-kept, slot-element, Copying, copy-start, copy-long, copy-read, copy-room, copy-turn, copy-end, each-map, each-keep, keep-one}
+use Rattle.mesh.proofs.Laws.Intake.Reads.{length-tets}
 
 -- a slot's element from its words
 pub slot-read : (x : Index) (s : List ℕ) (e a b c d : ℕ) → e < x .room → a ≡ cornerAt x s (4 * e) → b ≡ cornerAt x s (4 * e + 1) → c ≡ cornerAt x s (4 * e + 2)

@@ -17,7 +17,8 @@ use Rattle.mesh.specs.Element.{tets}
 use Rattle.mesh.specs.Surface.{triplesOf, answerOf, surfaceWords, areaFits, Filled, boundaryIn, callFits, Call, boundaryCall}
 use Rattle.mesh.proofs.Laws.Bools.{and-intro, and-left, and-right}
 use Rattle.mesh.proofs.Laws.Boundary.Faces.{tets-kept}
-use Rattle.mesh.proofs.Laws.Boundary.Whole.{tail-mid, words-count, triples-few}
+use Rattle.mesh.proofs.Laws.Boundary.Whole.{words-count, triples-few}
+use Rattle.mesh.proofs.Laws.Parts.{tail-mid}
 
 pub too-short : (n : ℕ) (els sf wk z : List ℕ) → callFits n (length els) (length sf) (length wk) ≡ false → z ≡ zeroWords (length wk)
     → _≡_ {A = Call} (record { answer = Refused 10; surface = sf; work = z }) (boundaryCall n els sf wk)
@@ -47,7 +48,7 @@ area-fits : (n m : ℕ) → n ≤ 16384 → 36 * n ≤ m → areaFits n m ≡ tr
 unfolding areaFits
 area-fits n m h k = and-intro (leb n 65536) (leb (36 * n) m) (le-leb n 65536 (omega arith)) (le-leb (36 * n) m k)
 
-filled-is : (n : ℕ) (s : List ℕ) → areaFits n (length s) ≡ true
+pub filled-is : (n : ℕ) (s : List ℕ) → areaFits n (length s) ≡ true
     → boundaryIn n s ≡ record { answer = answerOf (tets n s); area = take (4 * n) s ++ (surfaceWords (tets n s) ++ zeroWords (length s - (4 * n + length (surfaceWords (tets n s))))) }
 unfolding boundaryIn
 filled-is n s e = rw e

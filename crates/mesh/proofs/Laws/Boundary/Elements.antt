@@ -19,6 +19,7 @@ use Rattle.mesh.proofs.Laws.Bools.{clash, or-swap}
 use Rattle.mesh.proofs.Laws.Link.Keys.{key-mem}
 use Rattle.mesh.proofs.Laws.Boundary.Order.{same-sound}
 use Rattle.mesh.proofs.Laws.Boundary.Meaning.{surface-once, surface-else}
+use Rattle.mesh.proofs.Laws.Intake.Chains.{neither-left, neither-right}
 
 -- a vertex that one face has and another has not keeps their keys apart
 keys-apart : (x : ℕ) (f g : Triple) → mem x (cornersOf f) ≡ true → mem x (cornersOf g) ≡ false → keyOf f ≡ keyOf g → ⊥
@@ -64,28 +65,20 @@ record Different (a b c d : ℕ) : Type 0 where
   bd : b ≡ d → ⊥
   cd : c ≡ d → ⊥
 
-or-left : (a b : Bool) → (a || b) ≡ false → a ≡ false
-or-left true b h = h
-or-left false b h = refl
-
-or-right : (a b : Bool) → (a || b) ≡ false → b ≡ false
-or-right true b h = clash true refl h
-or-right false b h = h
-
 different : (t : Tet) → Nodup (verticesOf t) → Different (t .a) (t .b) (t .c) (t .d)
 different t n =
     let a = t .a in
     let b = t .b in
     let c = t .c in
     let d = t .d in
-    let p = or-right (eqb a b) (eqb a c || (eqb a d || false)) (n .0) in
+    let p = neither-right (eqb a b) (eqb a c || (eqb a d || false)) (n .0) in
     record {
-      ab = eqb-false a b (or-left (eqb a b) (eqb a c || (eqb a d || false)) (n .0));
-      ac = eqb-false a c (or-left (eqb a c) (eqb a d || false) p);
-      ad = eqb-false a d (or-left (eqb a d) false (or-right (eqb a c) (eqb a d || false) p));
-      bc = eqb-false b c (or-left (eqb b c) (eqb b d || false) (n .1 .0));
-      bd = eqb-false b d (or-left (eqb b d) false (or-right (eqb b c) (eqb b d || false) (n .1 .0)));
-      cd = eqb-false c d (or-left (eqb c d) false (n .1 .1 .0));
+      ab = eqb-false a b (neither-left (eqb a b) (eqb a c || (eqb a d || false)) (n .0));
+      ac = eqb-false a c (neither-left (eqb a c) (eqb a d || false) p);
+      ad = eqb-false a d (neither-left (eqb a d) false (neither-right (eqb a c) (eqb a d || false) p));
+      bc = eqb-false b c (neither-left (eqb b c) (eqb b d || false) (n .1 .0));
+      bd = eqb-false b d (neither-left (eqb b d) false (neither-right (eqb b c) (eqb b d || false) (n .1 .0)));
+      cd = eqb-false c d (neither-left (eqb c d) false (n .1 .1 .0));
     }
 
 faces-once : (k : Triple) (t : Tet) → Nodup (verticesOf t) → length (withKey k (facesOf t)) ≤ 1

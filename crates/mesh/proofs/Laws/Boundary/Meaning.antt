@@ -8,13 +8,13 @@ use mathlib.Core.List.{List, [], _∷_, map, List·Memᴰ, List·Memᴰ·head, L
 use Prim.Native.Nat.{ℕ, zero, suc, _*_, _≤_, _<_}
 use native.Mathlib.Omega.{arith}
 use lib.Dec.{eqb}
-use lib.ListN.{length, drop}
+use lib.ListN.{length}
 use borrow.Author.Tests.{eq-eqb, ne-eqb}
 use Rattle.mesh.specs.declared.element.Tet.{Tet}
 use Rattle.mesh.specs.declared.element.Triple.{Triple}
 use Rattle.mesh.specs.Sort.{sort, elem}
 use Rattle.mesh.specs.Complex.{keep}
-use Rattle.mesh.specs.Element.{tets, keyOf, parityOf}
+use Rattle.mesh.specs.Element.{keyOf, parityOf}
 use Rattle.mesh.specs.Boundary.{sameTriple, leTriple, allFaces, withKey, keyNumber, firstNumber, boundaryNumber, singles, boundaryOf}
 use Rattle.mesh.specs.Surface.{OneOrTwo, one, two}
 use Rattle.mesh.proofs.Laws.Bools.{clash}
@@ -25,15 +25,10 @@ use Rattle.mesh.proofs.Laws.Boundary.Runs.{with-head, lonely}
 
 -- ---- how many
 
-length-faces : (ts : List Tet) → length (allFaces ts) ≡ 4 * length ts
+pub length-faces : (ts : List Tet) → length (allFaces ts) ≡ 4 * length ts
 unfolding allFaces
 length-faces [] = refl
 length-faces (t ∷ ts) = let h = length-faces ts in omega arith
-
-pub length-tets : (n : ℕ) (s : List ℕ) → length (tets n s) ≡ n
-unfolding tets
-length-tets zero s = refl
-length-tets (suc n) s = ap suc (length-tets n (drop 4 s))
 
 -- at most four surface triples an element
 pub surface-few : (ts : List Tet) → length (boundaryOf ts) ≤ 4 * length ts

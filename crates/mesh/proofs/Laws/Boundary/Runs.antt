@@ -1,25 +1,25 @@
 -- The scan of faces whose keys are in order: its number is that of the first bad key, and where there is none it gathers the single
 -- faces. Assumes nothing.
 use mathlib.Core.Path.{_≡_, refl, sym, ap, ap₂, subst, _∙_}
-use mathlib.Core.Logic.{⊎-elim}
 use mathlib.Core.Bool.{Bool, true, false, cond}
 use mathlib.Core.List.{List, [], _∷_, map}
 use Prim.Native.Nat.{ℕ, suc, _≤_}
 use native.Mathlib.Omega.{arith}
 use lib.Dec.{eqb}
 use lib.ListN.{length}
-use borrow.Author.Tests.{eq-eqb, ne-eqb, eqb-true, eqb-false}
+use borrow.Author.Tests.{ne-eqb}
 use Rattle.mesh.specs.declared.element.Triple.{Triple}
 use Rattle.mesh.specs.Element.{keyOf, parityOf}
 use Rattle.mesh.specs.Sort.{insert, sort, headed, ordered}
 use Rattle.mesh.specs.Complex.{keep}
 use Rattle.mesh.specs.Boundary.{sameTriple, leTriple, withKey, keyNumber, firstNumber, singles}
 use Rattle.mesh.specs.Surface.{kind, badRun, lone}
-use Rattle.mesh.proofs.Laws.Bools.{split, clash, fails, and-left, and-right}
+use Rattle.mesh.proofs.Laws.Bools.{clash, fails, and-left, and-right}
 use Rattle.mesh.proofs.Laws.Sort.{length-sort}
 use Rattle.mesh.proofs.Laws.Boundary.Order.{triple-trans, triple-anti, same-refl, same-sound, same-at, same-other, triples-same}
 use Rattle.mesh.proofs.Laws.Boundary.Same.{Same, keep-same, same-keep, same-count}
 use Rattle.mesh.proofs.Laws.Boundary.Kinds.{single-bad, single-lone, couple-bad, couple-lone, bad-number}
+use Rattle.mesh.proofs.Laws.Numbers.{eqb-swap}
 
 -- two faces with the same key
 abbrev pub alike : Triple → Triple → Bool
@@ -48,9 +48,6 @@ pub none-tail : (k f : Triple) (l : List Triple) → withKey k (f ∷ l) ≡ [] 
 none-tail k f l e = sym (with-other k f l (none-head k f l e)) ∙ e
 
 -- ---- rearrangements
-
-eqb-swap : (x y : ℕ) → eqb x y ≡ eqb y x
-eqb-swap x y = ⊎-elim (λ h. h ∙ sym (eq-eqb y x (sym (eqb-true x y h)))) (λ h. h ∙ sym (ne-eqb y x (λ e. eqb-false x y h (sym e)))) (split (eqb x y))
 
 many : (l : List Triple) → 3 ≤ length l → keyNumber l ≡ 16
 unfolding keyNumber

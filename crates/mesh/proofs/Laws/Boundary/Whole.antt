@@ -5,7 +5,7 @@ use mathlib.Core.List.{List, [], _∷_, _++_, map, append-assoc, append-nil}
 use Prim.Native.Nat.{ℕ, zero, suc, _+_, _-_, _*_, _≤_, _<_}
 use native.Mathlib.Omega.{arith}
 use lib.Dec.{leb, ltb, eqb}
-use lib.ListN.{length, take, drop, getD, replicate, length-append, length-drop, drop-of-length-le}
+use lib.ListN.{length, take, drop, getD, replicate, length-append, length-drop}
 use lib.Seq.{take-at, drop-at, take-all, take-take, take-add, length-take-le}
 use borrow.Author.Tests.{le-leb, leb-true, lt-ltb, ne-eqb}
 use borrow.Rule.Slice.PartMut.{midOf, putMid}
@@ -26,18 +26,10 @@ use Rattle.mesh.proofs.Laws.Areas.{area-is, length-sorted}
 use Rattle.mesh.proofs.Laws.Boundary.Order.{sort-corners}
 use Rattle.mesh.proofs.Laws.Boundary.Faces.{rows-kept, tets-kept}
 use Rattle.mesh.proofs.Laws.Boundary.Scan.{rows-known, area-number, area-surface, area-count}
-use Rattle.mesh.proofs.Laws.Boundary.Meaning.{length-tets, surface-few}
+use Rattle.mesh.proofs.Laws.Boundary.Meaning.{surface-few}
 use Rattle.mesh.proofs.Laws.Boundary.Gather.{length-triples}
-
--- ---- a part that reaches to the end
-
-pub tail-mid : (a : ℕ) (s : List ℕ) → midOf a (length s - a) s ≡ drop a s
-tail-mid a s = take-all (length s - a) (drop a s) (omega (arith, length-drop a s))
-
-pub tail-put : (a : ℕ) (s y : List ℕ) → putMid a (length s - a) s y ≡ take a s ++ y
-tail-put a s y =
-    ap (λ (u : List ℕ). take a s ++ (y ++ u)) (drop-of-length-le (drop a s) {i = length s - a} (omega (arith, length-drop a s)))
-    ∙ ap (λ (u : List ℕ). take a s ++ u) (append-nil y)
+use Rattle.mesh.proofs.Laws.Parts.{tail-mid, tail-put}
+use Rattle.mesh.proofs.Laws.Intake.Reads.{length-tets}
 
 -- ---- the answer
 

@@ -78,15 +78,16 @@ onto-b a b (y ∷ e) h =
       | inr p ↦ mem-there b (onto a b y) (map (onto a b) e) (onto-b a b e p)
     ]
 
-onto-out : (a b z : ℕ) (e : List ℕ) → mem z (map (onto a b) e) ≡ true → ((mem z e ≡ true) × (z ≢ a)) ⊎ ((z ≡ b) × (mem a e ≡ true))
-onto-out a b z [] h = absurd (mem-nil z h)
-onto-out a b z (y ∷ e) h =
+-- the vertices of a list with b in the place of a
+pub onto-cases : (a b z : ℕ) (e : List ℕ) → mem z (map (onto a b) e) ≡ true → ((mem z e ≡ true) × (z ≢ a)) ⊎ ((z ≡ b) × (mem a e ≡ true))
+onto-cases a b z [] h = absurd (mem-nil z h)
+onto-cases a b z (y ∷ e) h =
     elim (mem-cases z (onto a b y) (map (onto a b) e) h) [
       | inl p ↦ elim (split (eqb y a)) [
         | inl q ↦ inr (rw q at p, or-left (mem a e) (eq-eqb a y (sym (eqb-true y a q))))
         | inr q ↦ let r : z ≡ y = rw q at p in inl (or-left (mem z e) (eq-eqb z y r), λ k. eqb-false y a q (sym r ∙ k))
       ]
-      | inr p ↦ elim (onto-out a b z e p) [
+      | inr p ↦ elim (onto-cases a b z e p) [
         | inl q ↦ inl (mem-there z y e (q .0), q .1)
         | inr q ↦ inr (q .0, mem-there a y e (q .1))
       ]
@@ -97,11 +98,11 @@ onto-nodup a b [] d h = tt
 onto-nodup a b (y ∷ e) d h = (
   nope (λ m. elim (split (eqb y a)) [
     | inl q ↦ let p = eqb-true y a q in
-        elim (onto-out a b b e (rw q at m)) [
+        elim (onto-cases a b b e (rw q at m)) [
           | inl r ↦ h (or-left (mem a e) (eq-eqb a y (sym p))) (mem-there b y e (r .0))
           | inr r ↦ clash (rw (← p) at (r .1)) (d .0)
         ]
-    | inr q ↦ elim (onto-out a b y e (rw q at m)) [
+    | inr q ↦ elim (onto-cases a b y e (rw q at m)) [
       | inl r ↦ clash (r .0) (d .0)
       | inr r ↦ h (mem-there a y e (r .1)) (or-left (mem b e) (eq-eqb b y (sym (r .0))))
     ]
@@ -207,7 +208,7 @@ module _ (n a b : ℕ) (es : List (List ℕ)) (P : Proper n es) (c : Collapsible
   gone σ h = nope (λ w.
       let r = within-elim σ (collapse a b es) w in
       let k = after-elim (r .0) es (r .1) in
-      elim (onto-out a b a (k .0) (rw (k .3) at (r .2 a h))) [ inl q ↦ q .1 refl | inr q ↦ c .differ (q .0) ])
+      elim (onto-cases a b a (k .0) (rw (k .3) at (r .2 a h))) [ inl q ↦ q .1 refl | inr q ↦ c .differ (q .0) ])
 
   kept : (σ : List ℕ) → mem a σ ≡ false → mem b σ ≡ false → within σ (collapse a b es) ≡ within σ es
   kept σ oa ob =
@@ -215,7 +216,7 @@ module _ (n a b : ℕ) (es : List (List ℕ)) (P : Proper n es) (c : Collapsible
       (λ w.
       let r = within-elim σ (collapse a b es) w in
       let k = after-elim (r .0) es (r .1) in
-      within-intro σ (k .1) (λ z m. elim (onto-out a b z (k .0) (rw (k .3) at (r .2 z m))) [ inl q ↦ q .0 | inr q ↦ absurd (apart z b σ m ob (q .0)) ]))
+      within-intro σ (k .1) (λ z m. elim (onto-cases a b z (k .0) (rw (k .3) at (r .2 z m))) [ inl q ↦ q .0 | inr q ↦ absurd (apart z b σ m ob (q .0)) ]))
       (λ w.
       let r = within-elim σ es w in
       let k = stays σ (r .0) (r .1) (r .2) oa ob in
@@ -227,8 +228,8 @@ module _ (n a b : ℕ) (es : List (List ℕ)) (P : Proper n es) (c : Collapsible
       (λ w.
       let r = within-elim (b ∷ σ) (collapse a b es) w in
       let k = after-elim (r .0) es (r .1) in
-      let sσ : Sub σ (k .0) = λ z m. elim (onto-out a b z (k .0) (rw (k .3) at (r .2 z (mem-there z b σ m)))) [ inl q ↦ q .0 | inr q ↦ absurd (apart z b σ m ob (q .0)) ] in
-      elim (onto-out a b b (k .0) (rw (k .3) at (r .2 b (mem-here b σ)))) [
+      let sσ : Sub σ (k .0) = λ z m. elim (onto-cases a b z (k .0) (rw (k .3) at (r .2 z (mem-there z b σ m)))) [ inl q ↦ q .0 | inr q ↦ absurd (apart z b σ m ob (q .0)) ] in
+      elim (onto-cases a b b (k .0) (rw (k .3) at (r .2 b (mem-here b σ)))) [
         | inl q ↦ or-right (within (a ∷ σ) es) (within-intro (b ∷ σ) (k .1) (Sub-cons b σ (k .0) (q .0) sσ))
         | inr q ↦ or-left (within (b ∷ σ) es) (within-intro (a ∷ σ) (k .1) (Sub-cons a σ (k .0) (q .1) sσ))
       ])
@@ -277,7 +278,7 @@ module _ (n a b : ℕ) (es : List (List ℕ)) (P : Proper n es) (c : Collapsible
   half e f h p q s z m =
       elim (split (eqb z a)) [
         | inl k ↦ let r = eqb-true z a k in rw r (p (rw r at m))
-        | inr k ↦ elim (onto-out a b z f (s z (onto-in a b z e (eqb-false z a k) m))) [
+        | inr k ↦ elim (onto-cases a b z f (s z (onto-in a b z e (eqb-false z a k) m))) [
           | inl r ↦ r .0
           | inr r ↦ absurd (h (q (r .1)) (rw (r .0) at m))
         ]
@@ -290,7 +291,7 @@ module _ (n a b : ℕ) (es : List (List ℕ)) (P : Proper n es) (c : Collapsible
       let l = rm-length a e (t .distinct) ha in
       let four = t .four in
       let oσ : mem b (rm a e) ≡ false = nope (λ q. clash (rm-sub a b e q) ob) in
-      let move : (z : ℕ) → mem z (map (onto a b) f) ≡ true → mem z f ≡ true = λ z q. elim (onto-out a b z f q) [ inl k ↦ k .0 | inr k ↦ absurd (clash (k .1) of) ] in
+      let move : (z : ℕ) → mem z (map (onto a b) f) ≡ true → mem z f ≡ true = λ z q. elim (onto-cases a b z f q) [ inl k ↦ k .0 | inr k ↦ absurd (clash (k .1) of) ] in
       let wa = within-intro (a ∷ rm a e) me (Sub-cons a (rm a e) e ha (λ z q. rm-sub a z e q)) in
       let wb = within-intro (b ∷ rm a e) mf (Sub-cons b (rm a e) f (move b (s b (onto-b a b e ha))) (λ z q. move z (s z (onto-in a b z e (apart z a (rm a e) q (rm-out a e)) (rm-sub a z e q))))) in
       let w = c .link (rm a e) (λ q. let k = ap length q in omega arith) (rm-out a e) oσ wa wb in
@@ -313,7 +314,7 @@ module _ (n a b : ℕ) (es : List (List ℕ)) (P : Proper n es) (c : Collapsible
               record {
                 four = length-map e (onto a b) ∙ Q .0 .four;
                 distinct = onto-nodup a b e (Q .0 .distinct) he;
-                below = λ x m. elim (onto-out a b x e m) [ inl q ↦ Q .0 .below x (q .0) | inr q ↦ rw (q .0) b<n ];
+                below = λ x m. elim (onto-cases a b x e m) [ inl q ↦ Q .0 .below x (q .0) | inr q ↦ rw (q .0) b<n ];
               },
               (λ f m s t.
                   let r = after-elim f fs m in

@@ -6,7 +6,7 @@ use mathlib.Core.Bool.{Bool, true, false, not, _&&_, _||_, true≢false, or-fals
 use mathlib.Core.List.{List, [], _∷_, List·Memᴰ, List·Memᴰ·cases-cons, _++_, Memᴰ·append-left, Memᴰ·append-right, List·Memᴰ·append-cases, List·Memᴰ·eq-of-singleton}
 use Prim.Native.Nat.{ℕ, _+_, _≤_, _<_}
 use native.Mathlib.Omega.{arith}
-use borrow.Author.Tests.{eqb-true, eq-eqb, ne-eqb, not-true}
+use borrow.Author.Tests.{eqb-true, ne-eqb, not-true}
 use lib.Dec.{eqb}
 use lib.ListN.{length}
 use Rattle.mesh.specs.Complex.{mem, sub, within, keep, star, upTo, faces, Nodup, Sub, IsElement, Proper, SameCount, SameComplex}
@@ -16,13 +16,11 @@ use Rattle.mesh.proofs.Laws.Complex.Sums.{bit, total, ind, total-cong, 
 use Rattle.mesh.proofs.Laws.Complex.Lists.{keep-elim, keep-intro, three-pass, four-pass}
 use Rattle.mesh.proofs.Laws.Complex.Same.{same-count, proper-keep, within-keep}
 use Rattle.mesh.proofs.Laws.Complex.Tets.{upTo-mem, upTo-nodup, tet-of, whole, faces-four, over}
+use Rattle.mesh.proofs.Laws.Numbers.{eqb-same}
 
 sub-cong : (σ e f : List ℕ) → ((z : ℕ) → mem z σ ≡ true → mem z e ≡ mem z f) → sub σ e ≡ sub σ f
 sub-cong [] e f h = refl
 sub-cong (x ∷ σ) e f h = ap₂ _&&_ (h x (mem-here x σ)) (sub-cong σ e f (λ z m. h z (mem-there z x σ m)))
-
-pub eq : (x : ℕ) → eqb x x ≡ true
-eq x = eq-eqb x x refl
 
 -- the boolean heart: s says that σ lies within v w, p that it lies within v, q that it lies within w
 heart : (s p q ru rau rbu : Bool) → (p ≡ true → s ≡ true) → (q ≡ true → s ≡ true) → (s ≡ true → p ≡ false → q ≡ false → (ru ≡ false) × (rau ≡ false) × (rbu ≡ false)) → bit (p || (q || ru)) + bit (s || rau) + bit (s || rbu) + bit (p || q) ≡ bit (s || (s || ru)) + bit (p || (s || q)) + bit (p || (q || rau)) + bit (p || (q || rbu))
@@ -171,7 +169,7 @@ module _ (a b u v w : ℕ) (five : Nodup (a ∷ b ∷ u ∷ v ∷ w ∷ [])) whe
   w-v : eqb w v ≡ false
   w-v = ne-eqb w v (λ q. v≢w (sym q))
 
-  ruleset known = (eq, a-b, b-a, a-u, u-a, a-v, v-a, a-w, w-a, b-u, u-b, b-v, v-b, b-w, w-b, u-v, v-u, u-w, w-u, v-w, w-v)
+  ruleset known = (eqb-same, a-b, b-a, a-u, u-a, a-v, v-a, a-w, w-a, b-u, u-b, b-v, v-b, b-w, w-b, u-v, v-u, u-w, w-u, v-w, w-v)
 
   -- the two lists, over what they share
   module _ (n : ℕ) (low : (x : ℕ) → mem x (a ∷ b ∷ u ∷ v ∷ w ∷ []) ≡ true → x < n) (R : List (List ℕ)) (PR : Proper n R) (noab : within (a ∷ b ∷ []) R ≡ false) (nouvw : within (u ∷ v ∷ w ∷ []) R ≡ false) where

@@ -50,7 +50,7 @@ total-map ρ (suc k) [] f = refl
 total-map ρ (suc k) (v ∷ vs) f = ap₂ _+_ (total-map ρ (suc k) vs f) (total-map ρ k vs (λ σ. f (ρ v ∷ σ)))
 
 -- new numbers for the vertices of a list
-map-mem : (ρ : ℕ → ℕ) (x : ℕ) (e : List ℕ) → mem x e ≡ true → mem (ρ x) (map ρ e) ≡ true
+pub map-mem : (ρ : ℕ → ℕ) (x : ℕ) (e : List ℕ) → mem x e ≡ true → mem (ρ x) (map ρ e) ≡ true
 map-mem ρ x [] h = absurd (mem-nil x h)
 map-mem ρ x (y ∷ e) h =
     elim (mem-cases x y e h) [

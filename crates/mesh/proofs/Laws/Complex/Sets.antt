@@ -9,7 +9,7 @@ use native.Mathlib.Omega.{arith}
 use borrow.Author.Tests.{eqb-true, eq-eqb, ne-eqb}
 use lib.Dec.{eqb}
 use lib.ListN.{length}
-use Rattle.mesh.specs.Complex.{mem, sub, within, keep, Nodup, Sub}
+use Rattle.mesh.specs.Complex.{mem, sub, within, star, keep, Nodup, Sub}
 pub use Rattle.mesh.proofs.Laws.Bools.{split}
 
 pub clash : {b : Bool} → b ≡ true → b ≡ false → ⊥
@@ -177,3 +177,12 @@ keep-mem p (y ∷ xs) x =
 pub keep-nodup : (p : ℕ → Bool) (xs : List ℕ) → Nodup xs → Nodup (keep p xs)
 keep-nodup p [] d = tt
 keep-nodup p (x ∷ xs) d = elim (split (p x)) [ inl h ↦ rw h (rw (keep-mem p xs x) (rw (d .0) refl), keep-nodup p xs (d .1)) | inr h ↦ rw h (keep-nodup p xs (d .1)) ]
+
+-- as many elements have the one set of vertices as the other, if they are the same
+pub star-alike : (σ τ : List ℕ) (es : List (List ℕ)) → Sub σ τ → Sub τ σ → star σ es ≡ star τ es
+unfolding star
+star-alike σ τ [] s t = refl
+star-alike σ τ (e ∷ es) s t =
+    let r = star-alike σ τ es s t in
+    let q : sub σ e ≡ sub τ e = same (λ h. sub-intro τ e (λ z m. sub-elim σ e h z (t z m))) (λ h. sub-intro σ e (λ z m. sub-elim τ e h z (s z m))) in
+    rw q (elim (split (sub τ e)) [ inl h ↦ rw h (ap suc r) | inr h ↦ rw h r ])

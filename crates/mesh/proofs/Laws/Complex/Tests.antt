@@ -1,18 +1,18 @@
 -- The tests are sound.
 -- Assumes nothing.
-use mathlib.Core.Path.{_≡_, refl, sym, ap, _∙_}
+use mathlib.Core.Path.{_≡_, refl, sym, _∙_}
 use mathlib.Core.Logic.{_≢_, inl, inr}
 use mathlib.Core.Bool.{Bool, true, false, not, _&&_, _||_, true≢false}
 use mathlib.Core.List.{List, [], _∷_, List·Memᴰ, List·Memᴰ·not-nil, List·Memᴰ·cases-cons, cons≢nil}
-use Prim.Native.Nat.{ℕ, suc, _<_}
+use Prim.Native.Nat.{ℕ, _<_}
 use native.Mathlib.Omega.{arith}
 use borrow.Author.Tests.{ltb-true, eqb-true, eqb-false, eq-eqb, ne-eqb, not-true}
 use lib.Dec.{eqb, ltb}
 use lib.ListN.{length}
-use Rattle.mesh.specs.Complex.{mem, sub, within, star, Nodup, Sub, Proper}
+use Rattle.mesh.specs.Complex.{mem, within, star, Nodup, Sub, Proper}
 use Rattle.mesh.specs.Moves.{Collapsible}
 use Rattle.mesh.specs.Tests.{every, isNil, others, common, linked, guarded, mayCollapse, nodup, under, isProper}
-use Rattle.mesh.proofs.Laws.Complex.Sets.{split, clash, same, or-cases, and-fst, and-snd, mem-here, mem-there, mem-nil, out, apart, Sub-cons, Sub-both, sub-elim, sub-intro, within-elim, within-intro, within-mono, keep-mem, mem-cases, nope}
+use Rattle.mesh.proofs.Laws.Complex.Sets.{clash, or-cases, and-fst, and-snd, mem-here, mem-there, mem-nil, out, apart, Sub-cons, Sub-both, within-elim, within-intro, within-mono, keep-mem, mem-cases, star-alike}
 use Rattle.mesh.proofs.Laws.Complex.Collapse.{star-some}
 use Rattle.mesh.proofs.Laws.Complex.Tets.{tet-of, whole}
 
@@ -31,14 +31,6 @@ imply false q h k = absurd (true≢false (sym k))
 
 others-mem : (a b : ℕ) (e : List ℕ) (z : ℕ) → mem z e ≡ true → z ≢ a → z ≢ b → mem z (others a b e) ≡ true
 others-mem a b e z m za zb = keep-mem (λ y. not (eqb y a) && not (eqb y b)) e z ∙ rw (m, ne-eqb z a za, ne-eqb z b zb) refl
-
-star-same : (σ τ : List ℕ) (es : List (List ℕ)) → Sub σ τ → Sub τ σ → star σ es ≡ star τ es
-unfolding star
-star-same σ τ [] s t = refl
-star-same σ τ (e ∷ es) s t =
-    let r = star-same σ τ es s t in
-    let q : sub σ e ≡ sub τ e = same (λ h. sub-intro τ e (λ z m. sub-elim σ e h z (t z m))) (λ h. sub-intro σ e (λ z m. sub-elim τ e h z (s z m))) in
-    rw q (elim (split (sub τ e)) [ inl h ↦ rw h (ap suc r) | inr h ↦ rw h r ])
 
 module _ (a b : ℕ) (es : List (List ℕ)) (L : linked a b es ≡ true) where
   link-sound : (σ : List ℕ) → σ ≢ [] → mem a σ ≡ false → mem b σ ≡ false → within (a ∷ σ) es ≡ true → within (b ∷ σ) es ≡ true → within (a ∷ b ∷ σ) es ≡ true
@@ -66,8 +58,8 @@ module _ (a b : ℕ) (es : List (List ℕ)) (L : linked a b es ≡ true) where
   at-element : guarded a b es ≡ true → (x y : ℕ) → x ≢ a → x ≢ b → y ≢ a → y ≢ b → star (a ∷ x ∷ y ∷ []) es ≡ 1 → star (b ∷ x ∷ y ∷ []) es ≡ 1 → (e : List ℕ) → List·Memᴰ e es → Sub (a ∷ b ∷ x ∷ y ∷ []) e → Sub e (a ∷ b ∷ x ∷ y ∷ []) → ⊥
   at-element G x y xa xb ya yb sa sb e m s t =
       clash (rw (
-        eq-eqb (star (a ∷ others a b e) es) 1 (sym (star-same (a ∷ x ∷ y ∷ []) (a ∷ others a b e) es (Sub-both a (x ∷ y ∷ []) (others a b e) there) (Sub-both a (others a b e) (x ∷ y ∷ []) back)) ∙ sa),
-        eq-eqb (star (b ∷ others a b e) es) 1 (sym (star-same (b ∷ x ∷ y ∷ []) (b ∷ others a b e) es (Sub-both b (x ∷ y ∷ []) (others a b e) there) (Sub-both b (others a b e) (x ∷ y ∷ []) back)) ∙ sb),
+        eq-eqb (star (a ∷ others a b e) es) 1 (sym (star-alike (a ∷ x ∷ y ∷ []) (a ∷ others a b e) es (Sub-both a (x ∷ y ∷ []) (others a b e) there) (Sub-both a (others a b e) (x ∷ y ∷ []) back)) ∙ sa),
+        eq-eqb (star (b ∷ others a b e) es) 1 (sym (star-alike (b ∷ x ∷ y ∷ []) (b ∷ others a b e) es (Sub-both b (x ∷ y ∷ []) (others a b e) there) (Sub-both b (others a b e) (x ∷ y ∷ []) back)) ∙ sb),
       ) refl)
       (not-true (eqb (star (a ∷ others a b e) es) 1 && eqb (star (b ∷ others a b e) es) 1)
       (imply (mem a e && mem b e) _ (every-elim (λ f. not (mem a f && mem b f) || not (eqb (star (a ∷ others a b f) es) 1 && eqb (star (b ∷ others a b f) es) 1)) e es G m) (rw (s a (mem-here a (b ∷ x ∷ y ∷ [])), s b (mem-there b a (b ∷ x ∷ y ∷ []) (mem-here b (x ∷ y ∷ [])))) refl)))
@@ -111,11 +103,11 @@ mayCollapse-sound n a b es P h =
       inner = inner-sound a b es L n P (and-snd (linked a b es) (guarded a b es) h₂) ab;
     }
 
-nodup-sound : (e : List ℕ) → nodup e ≡ true → Nodup e
+pub nodup-sound : (e : List ℕ) → nodup e ≡ true → Nodup e
 nodup-sound [] h = tt
 nodup-sound (x ∷ e) h = (not-true (mem x e) (and-fst (not (mem x e)) (nodup e) h), nodup-sound e (and-snd (not (mem x e)) (nodup e) h))
 
-under-sound : (n : ℕ) (e : List ℕ) → under n e ≡ true → (x : ℕ) → mem x e ≡ true → x < n
+pub under-sound : (n : ℕ) (e : List ℕ) → under n e ≡ true → (x : ℕ) → mem x e ≡ true → x < n
 under-sound n [] h x m = absurd (mem-nil x m)
 under-sound n (y ∷ e) h x m =
     elim (mem-cases x y e m) [

@@ -7,8 +7,8 @@ use Prim.Native.Nat.{ℕ, zero, suc, _+_, _-_, _*_, _/_, _%_, _≤_, _<_, min, m
 use native.Mathlib.Nat.{zero-add}
 use native.Mathlib.Omega.{arith}
 use lib.Dec.{leb, ltb}
-use lib.ListN.{length, take, drop, getD, set, length-drop}
-use lib.Seq.{getD-take, getD-drop, drop-drop, take-at, length-take-le, paste, length-paste, sets-eq}
+use lib.ListN.{length, take, drop, getD, length-drop}
+use lib.Seq.{getD-take, getD-drop, drop-drop, take-at, length-take-le, paste, length-paste}
 use borrow.Author.Tests.{le-leb, lt-leb, lt-ltb, leb-true}
 use borrow.Rule.Slice.PartMut.{midOf, putMid}
 use Rattle.mesh.specs.declared.element.Pair.{Pair}
@@ -22,13 +22,13 @@ use Rattle.mesh.specs.Intake.{tetAt}
 use Rattle.mesh.specs.Group.{numbers}
 use Rattle.mesh.specs.Manifold.{filled, KeptBelow}
 use Rattle.mesh.proofs.Laws.Bools.{and-intro, and-left, and-right}
-use Rattle.mesh.proofs.Laws.Parts.{paste-part}
+use Rattle.mesh.proofs.Laws.Parts.{paste-part, tail-mid, tail-put}
 use Rattle.mesh.proofs.Laws.Rows.{rows-words}
 use Rattle.mesh.proofs.Laws.Keeping.{unique-is, length-unique-area}
 use Rattle.mesh.proofs.Laws.Intake.Reads.{length-tets}
 use Rattle.mesh.proofs.Laws.Manifold.Fill.{fill-front, fill-turn, fill-kept, filled-rows}
 use Rattle.mesh.proofs.Laws.Manifold.Growth.{kept-both}
-use Rattle.mesh.proofs.Laws.Manifold.Steps.{word-below, put-kept, tail-mid, tail-put, sort-kept, sort-from-rows}
+use Rattle.mesh.proofs.Laws.Manifold.Steps.{word-below, put-kept, sort-kept, sort-from-rows}
 use Rattle.mesh.specs.Euler.{endsAt, risingRow, vertexRows, edgeRows, triangleRows, spread, different, countsOf, countFits, Counted, countedIn, edgeRowAt, triangleRowAt}
 
 -- ---- elements that are kept
@@ -59,7 +59,7 @@ tets-flat (t ∷ ts) x = ap (λ (l : List Tet). t ∷ l) (tets-flat ts x)
 
 -- ---- rows by number
 
-numbers-split : (k a b : ℕ) → numbers k (a + b) ≡ numbers k a ++ numbers (k + a) b
+pub numbers-split : (k a b : ℕ) → numbers k (a + b) ≡ numbers k a ++ numbers (k + a) b
 unfolding numbers
 numbers-split k zero b = let e : k ≡ k + 0 = omega arith in rw zero-add (ap (λ (u : ℕ). numbers u b) e)
 numbers-split k (suc a) b =
@@ -180,12 +180,6 @@ module _ (n j : ℕ) (s₀ s s′ : List ℕ) (room : 28 * n ≤ length s₀) wh
       let k : take (4 * n) s ≡ take (4 * n) s₀ = ap (take (4 * n)) q ∙ fill-front (triangleRowAt s₀) 3 (λ i. refl) (4 * n) s₀ (omega arith) j in
       fill-turn (triangleRowAt s₀) 3 (λ i. refl) (4 * n) s₀ (omega arith) j s s′ (cornersOf f) (omega arith) q
       (ap cornersOf (g ∙ ap (λ (u : Tet). keyOf (faceOf u (j % 4))) (e ∙ tet-kept s₀ s n (j / 4) k (omega arith)))) p
-
-pub put-three : (s : List ℕ) (p a b c : ℕ) → p + 3 ≤ length s → set (set (set s p a) (p + 1) b) (p + 2) c ≡ paste s p (a ∷ b ∷ c ∷ []) 3
-put-three s p a b c h =
-    let e₁ : p + 1 ≡ suc p = omega arith in
-    let e₂ : p + 2 ≡ suc (suc p) = omega arith in
-    rw (e₁, e₂) (sets-eq (a ∷ b ∷ c ∷ []) s p h)
 
 -- ---- rows sorted, and equal neighbours taken out
 

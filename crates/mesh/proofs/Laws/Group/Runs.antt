@@ -6,8 +6,7 @@ use mathlib.Core.Bool.{Bool, true, _&&_}
 use mathlib.Core.List.{List, [], _∷_, _++_, map, append-assoc, List·Memᴰ, List·Memᴰ·not-nil, List·Memᴰ·cases-cons}
 use Prim.Native.Nat.{ℕ, zero, suc, _+_, _≤_, _<_}
 use native.Mathlib.Omega.{arith}
-use borrow.Author.Tests.{lt-ltb, le-ltb, eq-eqb, ne-eqb, eqb-true, eqb-false}
-use lib.Dec.{eqb}
+use borrow.Author.Tests.{lt-ltb, le-ltb}
 use lib.ListN.{length, take, getD, length-append}
 use lib.Seq.{getD-append-seam}
 use Rattle.geometry.specs.declared.point.Point.{Point}
@@ -19,17 +18,17 @@ use Rattle.mesh.specs.Sort.{sort, unique}
 use Rattle.mesh.specs.Rows.{leRow, eqRow}
 use Rattle.mesh.specs.Complex.{keep}
 use Rattle.mesh.specs.Group.{runs, sameFirst, numbers, sameRanks, leRanks, rankOf, ofRank, groupOf, groups}
-use Rattle.mesh.proofs.Laws.Bools.{split}
 use Rattle.mesh.proofs.Laws.Sort.{ordered-sort}
 use Rattle.mesh.proofs.Laws.Rows.{leRow-total, leRow-take, eqRow-sound}
 use Rattle.mesh.proofs.Laws.SortedRows.{sorted-rows-unique}
 use Rattle.mesh.proofs.Laws.Link.Members.{keep-same}
 use Rattle.mesh.proofs.Laws.Manifold.Kept.{Steady, none, more}
 use Rattle.mesh.proofs.Laws.Manifold.RowRuns.{sorted-runs, kept-steady}
-use Rattle.mesh.proofs.Laws.Manifold.Corners.{keep-map}
 use Rattle.mesh.specs.Group.{rankWords, groupRow, vertexIn, groupRows}
 use Rattle.mesh.proofs.Laws.Group.Images.{sort-map, unique-map, ordered-map, count-sort-map, map-map, map-same}
 use Rattle.mesh.proofs.Laws.Group.Ranks.{le-ranks, eq-ranks}
+use Rattle.mesh.proofs.Laws.Numbers.{eqb-swap}
+use Rattle.mesh.proofs.Laws.Boundary.Same.{keep-map}
 
 -- ---- numbers
 
@@ -43,11 +42,8 @@ read-from {A} {B} f d pre (x ∷ l) =
     (ap₂ (λ (k : ℕ) (m : List A). map (λ v. f (getD m v d)) (numbers k (length l))) e (sym (append-assoc pre (x ∷ []) l))
     ∙ read-from f d (pre ++ (x ∷ [])) l)
 
-eqb-flip : (a b : ℕ) → eqb a b ≡ eqb b a
-eqb-flip a b = elim (split (eqb b a)) [ inl e ↦ eq-eqb a b (sym (eqb-true b a e)) ∙ sym e | inr e ↦ ne-eqb a b (λ q. eqb-false b a e (sym q)) ∙ sym e ]
-
 ranks-flip : (r s : Ranks) → sameRanks r s ≡ sameRanks s r
-ranks-flip r s = ap₂ (λ (a b : Bool). a && b) (eqb-flip (r .x) (s .x)) (ap₂ (λ (a b : Bool). a && b) (eqb-flip (r .y) (s .y)) (eqb-flip (r .z) (s .z)))
+ranks-flip r s = ap₂ (λ (a b : Bool). a && b) (eqb-swap (r .x) (s .x)) (ap₂ (λ (a b : Bool). a && b) (eqb-swap (r .y) (s .y)) (eqb-swap (r .z) (s .z)))
 
 -- ---- rows of one rank stand in number order
 

@@ -8,8 +8,8 @@ use native.Mathlib.Nat.{not-suc-le-zero, le-of-suc-le-suc}
 use native.Mathlib.Numerals.{add-one, sub-one}
 use native.Mathlib.Omega.{arith}
 use lib.Dec.{leb}
-use lib.ListN.{length, take, drop, getD, set, replicate, length-append, length-drop, replicate-append-replicate}
-use lib.Seq.{length-take-le, take-all, take-suc, take-at, drop-at, drop-drop, paste, sets-eq}
+use lib.ListN.{length, take, drop, getD, replicate, length-append, length-drop, replicate-append-replicate}
+use lib.Seq.{length-take-le, take-all, take-suc, take-at, drop-at, drop-drop, paste}
 use borrow.Author.Tests.{le-leb}
 use Rattle.mesh.specs.declared.element.Tet.{Tet}
 use Rattle.mesh.specs.Sort.{sort, headed, ordered}
@@ -23,15 +23,6 @@ use Rattle.mesh.proofs.Laws.Areas.{area-is, rows-sorted}
 use Rattle.mesh.proofs.Laws.Intake.Reads.{length-tets, tets-at}
 
 -- ---- four words
-
--- four words written one by one
-pub put-four : (s : List ℕ) (p a b c d : ℕ) → p + 4 ≤ length s
-    → set (set (set (set s p a) (p + 1) b) (p + 2) c) (p + 3) d ≡ paste s p (a ∷ b ∷ c ∷ d ∷ []) 4
-put-four s p a b c d h =
-    let e₁ : p + 1 ≡ suc p = omega arith in
-    let e₂ : p + 2 ≡ suc (suc p) = omega arith in
-    let e₃ : p + 3 ≡ suc (suc (suc p)) = omega arith in
-    rw (e₁, e₂, e₃) (sets-eq (a ∷ b ∷ c ∷ d ∷ []) s p h)
 
 four-words : (t : Tet) → length (vertexRow t) ≡ 4
 unfolding vertexRow

@@ -4,9 +4,8 @@ use mathlib.Core.Path.{_≡_, refl, sym, ap, ap₂, subst, _∙_}
 use mathlib.Core.Bool.{Bool, true, false, cond, not, _&&_, _||_}
 use mathlib.Core.List.{List, [], _∷_, map}
 use Prim.Native.Nat.{ℕ, suc}
-use native.Mathlib.Omega.{arith}
 use lib.Dec.{eqb, leb}
-use borrow.Author.Tests.{le-leb, leb-true, leb-false, eq-eqb, eqb-true}
+use borrow.Author.Tests.{eq-eqb, eqb-true}
 use Rattle.mesh.specs.declared.element.Tet.{Tet}
 use Rattle.mesh.specs.Sort.{sort, count, elem}
 use Rattle.mesh.specs.Rows.{leRow, eqRow}
@@ -15,27 +14,14 @@ use Rattle.mesh.specs.Tests.{every, nodup, under}
 use Rattle.mesh.specs.Element.{verticesOf}
 use Rattle.mesh.specs.Intake.{wellNumbered, sameVertices, allDifferent, vertexRow, noneTwice}
 use Rattle.mesh.proofs.Laws.Bools.{and-intro, and-left, and-right}
-use Rattle.mesh.proofs.Laws.Sort.{elem-sort, sort-same}
+use Rattle.mesh.proofs.Laws.Sort.{sort-same}
 use Rattle.mesh.proofs.Laws.Rows.{leRow-total, leRow-trans, leRow-anti, eqRow-refl, eqRow-sound}
 use Rattle.mesh.proofs.Laws.Complex.Sets.{same, sub-elim, sub-intro}
 use Rattle.mesh.proofs.Laws.Intake.Twice.{distinct, distinct-neighbours}
+use Rattle.mesh.proofs.Laws.Numbers.{leb-trans, leb-total, leb-anti}
+use Rattle.mesh.proofs.Laws.Link.Simplices.{sort-mem}
 
 -- ---- numbers in order
-
-leb-total : (a b : ℕ) → leb a b ≡ false → leb b a ≡ true
-leb-total a b h = let l = leb-false a b h in le-leb b a (omega arith)
-
-leb-trans : (a b c : ℕ) → leb a b ≡ true → leb b c ≡ true → leb a c ≡ true
-leb-trans a b c h k =
-    let l = leb-true a b h in
-    let m = leb-true b c k in
-    le-leb a c (omega arith)
-
-leb-anti : (a b : ℕ) → leb a b ≡ true → leb b a ≡ true → a ≡ b
-leb-anti a b h k =
-    let l = leb-true a b h in
-    let m = leb-true b a k in
-    omega arith
 
 eqRow-sym : (a b : List ℕ) → eqRow a b ≡ eqRow b a
 eqRow-sym a b =
@@ -44,15 +30,6 @@ eqRow-sym a b =
     (λ h. subst (λ (u : List ℕ). eqRow u b ≡ true) (eqRow-sound b a h) (eqRow-refl b))
 
 -- ---- vertices
-
-mem-elem : (x : ℕ) (l : List ℕ) → mem x l ≡ elem eqb x l
-unfolding elem
-mem-elem x [] = refl
-mem-elem x (y ∷ l) = ap (λ (b : Bool). eqb x y || b) (mem-elem x l)
-
--- a sort has the vertices of its list
-mem-sort : (x : ℕ) (l : List ℕ) → mem x (sort leb l) ≡ mem x l
-mem-sort x l = mem-elem x (sort leb l) ∙ elem-sort leb eqb x l ∙ sym (mem-elem x l)
 
 -- a vertex stands once in a list in which none stands twice, or not at all
 count-once : (z : ℕ) (l : List ℕ) → nodup l ≡ true → count eqb z l ≡ cond (mem z l) 1 0
@@ -99,7 +76,7 @@ same-rows t u h k = same to from
 
     from : eqRow (sort leb a) (sort leb b) ≡ true → (sub a b && sub b a) ≡ true
     from e =
-        let q : (z : ℕ) → mem z a ≡ mem z b = λ z. sym (mem-sort z a) ∙ ap (mem z) (eqRow-sound (sort leb a) (sort leb b) e) ∙ mem-sort z b in
+        let q : (z : ℕ) → mem z a ≡ mem z b = λ z. sym (sort-mem z a) ∙ ap (mem z) (eqRow-sound (sort leb a) (sort leb b) e) ∙ sort-mem z b in
         and-intro (sub a b) (sub b a) (sub-intro a b (λ z m. sym (q z) ∙ m)) (sub-intro b a (λ z m. q z ∙ m))
 
 -- ---- lists of elements

@@ -38,7 +38,7 @@ unfolding tets
 length-tets zero s = refl
 length-tets (suc n) s = ap suc (length-tets n (drop 4 s))
 
-tet-drop : (s : List ℕ) (e : ℕ) → tetAt (drop 4 s) e ≡ tetAt s (suc e)
+pub tet-drop : (s : List ℕ) (e : ℕ) → tetAt (drop 4 s) e ≡ tetAt s (suc e)
 unfolding tetAt
 tet-drop s e = rw (at (4 * e) (4 * suc e) (omega arith), at (4 * e + 1) (4 * suc e + 1) (omega arith), at (4 * e + 2) (4 * suc e + 2) (omega arith), at (4 * e + 3) (4 * suc e + 3) (omega arith))
   where

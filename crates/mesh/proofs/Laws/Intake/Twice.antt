@@ -4,7 +4,7 @@ use mathlib.Core.Bool.{Bool, true, false, cond, not, _&&_, _||_}
 use mathlib.Core.List.{List, [], _∷_}
 use Rattle.mesh.specs.Sort.{insert, sort, headed, ordered, elem}
 use Rattle.mesh.proofs.Laws.Bools.{clash, fails, and-left, and-right}
-use Rattle.mesh.proofs.Laws.Sort.{elem-sort, ordered-sort}
+use Rattle.mesh.proofs.Laws.Sort.{elem-sort, ordered-sort, elem-insert}
 
 module _ {A : Type 0} (eq : A → A → Bool) where
   -- no element stands in the list again behind its place
@@ -17,21 +17,6 @@ module _ {A : Type 0} (eq : A → A → Bool) where
   differ a b = not (eq a b)
 
 module _ {A : Type 0} (le eq : A → A → Bool) (eq-sym : (a b : A) → eq a b ≡ eq b a) where
-  elem-insert : (z x : A) (l : List A) → elem eq z (insert le x l) ≡ (eq z x || elem eq z l)
-  unfolding insert elem
-  elem-insert z x [] = refl
-  elem-insert z x (y ∷ l) = go (le x y) (elem-insert z x l)
-    where
-      swap : (a b c : Bool) → (a || (b || c)) ≡ (b || (a || c))
-      swap true true c = refl
-      swap true false c = refl
-      swap false true c = refl
-      swap false false c = refl
-
-      go : (b : Bool) → elem eq z (insert le x l) ≡ (eq z x || elem eq z l) → elem eq z (cond b (x ∷ y ∷ l) (y ∷ insert le x l)) ≡ (eq z x || elem eq z (y ∷ l))
-      go true ih = refl
-      go false ih = ap (λ (b : Bool). eq z y || b) ih ∙ swap (eq z y) (eq z x) (elem eq z l)
-
   distinct-insert : (x : A) (l : List A) → distinct eq (insert le x l) ≡ distinct eq (x ∷ l)
   unfolding insert elem
   distinct-insert x [] = refl
@@ -47,7 +32,7 @@ module _ {A : Type 0} (le eq : A → A → Bool) (eq-sym : (a b : A) → eq a b 
       go : (b : Bool) → distinct eq (insert le x l) ≡ distinct eq (x ∷ l) → distinct eq (cond b (x ∷ y ∷ l) (y ∷ insert le x l)) ≡ distinct eq (x ∷ y ∷ l)
       go true ih = refl
       go false ih =
-          ap₂ (λ (a b : Bool). not a && b) (elem-insert y x l ∙ ap (λ (b : Bool). b || elem eq y l) (eq-sym y x)) ih
+          ap₂ (λ (a b : Bool). not a && b) (elem-insert le eq y x l ∙ ap (λ (b : Bool). b || elem eq y l) (eq-sym y x)) ih
           ∙ swap (eq x y) (elem eq y l) (elem eq x l) (distinct eq l)
 
   -- the sort has an element twice where the list has

@@ -11,13 +11,13 @@ use lib.Dec.{eqb}
 use lib.ListN.{length}
 use Rattle.mesh.specs.declared.element.Tet.{Tet}
 use Rattle.mesh.specs.declared.element.Triple.{Triple}
-use Rattle.mesh.specs.Complex.{mem, sub, within, keep, star, Nodup, Sub}
+use Rattle.mesh.specs.Complex.{mem, within, keep, star, Nodup, Sub}
 use Rattle.mesh.specs.Sets.{times}
 use Rattle.mesh.specs.Element.{triple, facesOf, keyOf, verticesOf, cornersOf}
 use Rattle.mesh.specs.Boundary.{sameTriple, allFaces}
 use Rattle.mesh.specs.Link.{keysAbout, boundaryAbout, boundaryOk}
-use Rattle.mesh.proofs.Laws.Complex.Sets.{split, same, or-left, or-right, mem-here, out, sub-elim, sub-intro, within-elim, within-intro, short}
-use Rattle.mesh.proofs.Laws.Link.Members.{Decides, kept-elim, kept-intro, keep-same}
+use Rattle.mesh.proofs.Laws.Complex.Sets.{split, or-left, or-right, mem-here, out, within-elim, within-intro, short, star-alike}
+use Rattle.mesh.proofs.Laws.Link.Members.{Decides, kept-elim, kept-intro}
 use Rattle.mesh.proofs.Laws.Link.Simplices.{rising, rising-nodup}
 use Rattle.mesh.proofs.Laws.Link.Links.{Simplices, LinksMeet, linksMeet-sound, linksMeet-complete}
 use Rattle.mesh.proofs.Laws.Link.Keys.{Fours, key-mem, key-rising, triple-decides, face-nodup, three-nodup, flip≢, times-star}
@@ -46,14 +46,6 @@ module _ {A : Type 0} (alike : A → A → Bool) (d : Decides alike) where
       elim (split (alike x y)) [ inl e ↦ List·Memᴰ·head (d .equal x y e) | inr e ↦ List·Memᴰ·tail (times-some x ys (rw e at h)) ]
 
 -- ---- the boundary faces about an edge
-
--- as many elements have the one set of vertices as the other, if they are the same
-pub star-alike : (σ τ : List ℕ) (es : List (List ℕ)) → Sub σ τ → Sub τ σ → star σ es ≡ star τ es
-unfolding star
-star-alike σ τ es s t =
-    ap length
-    (keep-same (sub σ) (sub τ) es
-    (λ e. same (λ h. sub-intro τ e (λ z m. sub-elim σ e h z (t z m))) (λ h. sub-intro σ e (λ z m. sub-elim τ e h z (s z m)))))
 
 -- a key with a or b whose three vertices one element has
 pub record BoundaryFace (a b : ℕ) (es : List (List ℕ)) (f : Triple) : Type 0 where

@@ -21,13 +21,13 @@ use Rattle.mesh.specs.Link.{sameSimplex, boundaryAbout}
 use Rattle.mesh.specs.Tests.{every}
 use Rattle.mesh.specs.Feature.{bitsOf, shared, featureOk}
 use Rattle.mesh.specs.FeatureByMasks.{cornersIn, joined, outlives, onCurve, rimOk, curveOk, featureByMasks}
-use Rattle.mesh.proofs.Laws.Complex.Sets.{split, clash, nope, same, and-fst, and-snd, mem-here, mem-there, mem-cases, mem-nil, out, apart, Sub-cons, sub-elim, sub-intro, keep-mem, keep-nodup, rm, rm-out, rm-mem, rm-sub, rm-none, rm-nodup, rm-length, short, full}
+use Rattle.mesh.proofs.Laws.Complex.Sets.{split, clash, nope, same, and-fst, and-snd, mem-here, mem-there, mem-cases, mem-nil, out, apart, Sub-cons, sub-elim, sub-intro, keep-mem, keep-nodup, rm, rm-out, rm-mem, rm-sub, rm-none, rm-nodup, rm-length, short, full, star-alike}
 use Rattle.mesh.proofs.Laws.Complex.Sums.{bit}
 use Rattle.mesh.proofs.Laws.Complex.Tets.{upTo-mem, upTo-nodup, tet-of}
 use Rattle.mesh.proofs.Laws.Complex.Collapse.{star-some}
 use Rattle.mesh.proofs.Laws.Link.Simplices.{every-mem, mem-every}
 use Rattle.mesh.proofs.Laws.Link.Keys.{Fours, proper-fours, key-mem, key-rising, triple-decides, times-star, three-nodup, flip≢, keep-cons}
-use Rattle.mesh.proofs.Laws.Link.Boundary.{times-some, star-alike, boundary-elim, boundary-within}
+use Rattle.mesh.proofs.Laws.Link.Boundary.{times-some, boundary-elim, boundary-within}
 use Rattle.mesh.proofs.Laws.Link.Labels.{edge-elim, Sub-two}
 use Rattle.mesh.proofs.Laws.Link.Masks.{on-face, outlives-intro, boundary-masks}
 
@@ -227,7 +227,7 @@ two-or-fewer (f ∷ g ∷ []) h = omega arith
 two-or-fewer (f ∷ g ∷ e ∷ gs) h = absurd (omega arith)
 
 -- and as many as it stands among the keys
-with-key : (k : Triple) (fs : List Triple) → length (withKey k fs) ≡ times sameTriple k (map keyOf fs)
+pub with-key : (k : Triple) (fs : List Triple) → length (withKey k fs) ≡ times sameTriple k (map keyOf fs)
 with-key k [] = refl
 with-key k (f ∷ fs) =
     let ih = with-key k fs in

@@ -20,21 +20,18 @@ use Rattle.mesh.proofs.Laws.Complex.Sums.{bit}
 use Rattle.mesh.proofs.Laws.Complex.Tets.{tet-of}
 use Rattle.mesh.proofs.Laws.Link.Members.{Decides}
 use Rattle.mesh.proofs.Laws.Link.Simplices.{rising, rising-nodup, rising-unique}
+use Rattle.mesh.proofs.Laws.Bools.{or-swap}
+use Rattle.mesh.proofs.Laws.Boundary.Order.{same-sound, same-refl}
 
 -- ---- the key as a set
 
-second : (p q r : Bool) → (p || (q || r)) ≡ (q || (p || r))
-second true true r = refl
-second true false r = refl
-second false q r = refl
-
 first-mem : (f : Triple) (z : ℕ) → mem z (cornersOf (sortFirst f)) ≡ mem z (cornersOf f)
 unfolding sortFirst
-first-mem f z = elim (split (ltb (f .b) (f .a))) [ inl h ↦ rw h (second (eqb z (f .b)) (eqb z (f .a)) (mem z (f .c ∷ []))) | inr h ↦ rw h refl ]
+first-mem f z = elim (split (ltb (f .b) (f .a))) [ inl h ↦ rw h (or-swap (eqb z (f .b)) (eqb z (f .a)) (mem z (f .c ∷ []))) | inr h ↦ rw h refl ]
 
 last-mem : (f : Triple) (z : ℕ) → mem z (cornersOf (sortLast f)) ≡ mem z (cornersOf f)
 unfolding sortLast
-last-mem f z = elim (split (ltb (f .c) (f .b))) [ inl h ↦ rw h (ap (λ p. eqb z (f .a) || p) (second (eqb z (f .c)) (eqb z (f .b)) false)) | inr h ↦ rw h refl ]
+last-mem f z = elim (split (ltb (f .c) (f .b))) [ inl h ↦ rw h (ap (λ p. eqb z (f .a) || p) (or-swap (eqb z (f .c)) (eqb z (f .b)) false)) | inr h ↦ rw h refl ]
 
 pub key-mem : (f : Triple) (z : ℕ) → mem z (cornersOf (keyOf f)) ≡ mem z (cornersOf f)
 unfolding keyOf
@@ -73,18 +70,7 @@ key-rising f d = by (f .a) (f .b) (f .c) (out-head (f .a) (f .b) (f .c ∷ []) (
 -- ---- keys are equal where the vertices are
 
 pub triple-decides : Decides sameTriple
-triple-decides = record { equal = equal′; self = λ f. rw (eq-eqb (f .a) (f .a) refl, eq-eqb (f .b) (f .b) refl, eq-eqb (f .c) (f .c) refl) refl }
-  where
-    join : (a b c a′ b′ c′ : ℕ) → a ≡ a′ → b ≡ b′ → c ≡ c′ → triple a b c ≡ triple a′ b′ c′
-    join a b c a′ b′ c′ p q r = rw (p, q, r) refl
-
-    equal′ : (f g : Triple) → sameTriple f g ≡ true → f ≡ g
-    equal′ f g h =
-        let k = and-snd (eqb (f .a) (g .a)) (eqb (f .b) (g .b) && eqb (f .c) (g .c)) h in
-        join (f .a) (f .b) (f .c) (g .a) (g .b) (g .c)
-        (eqb-true (f .a) (g .a) (and-fst (eqb (f .a) (g .a)) (eqb (f .b) (g .b) && eqb (f .c) (g .c)) h))
-        (eqb-true (f .b) (g .b) (and-fst (eqb (f .b) (g .b)) (eqb (f .c) (g .c)) k))
-        (eqb-true (f .c) (g .c) (and-snd (eqb (f .b) (g .b)) (eqb (f .c) (g .c)) k))
+triple-decides = record { equal = same-sound; self = same-refl }
 
 corners-same : (f g : Triple) → cornersOf f ≡ cornersOf g → sameTriple f g ≡ true
 corners-same f g e =
@@ -223,18 +209,18 @@ module _ (f : Triple) (h : rising (cornersOf f) ≡ true) where
       face g v d′ i o = key-same f g h d′ ∙ missing v σ (cornersOf g) e i o
 
       in-abd : (z : ℕ) → mem z e ≡ (eqb z c || mem z (a ∷ b ∷ d ∷ []))
-      in-abd z = ap (λ p. eqb z a || p) (second (eqb z b) (eqb z c) (mem z (d ∷ []))) ∙ second (eqb z a) (eqb z c) (mem z (b ∷ d ∷ []))
+      in-abd z = ap (λ p. eqb z a || p) (or-swap (eqb z b) (eqb z c) (mem z (d ∷ []))) ∙ or-swap (eqb z a) (eqb z c) (mem z (b ∷ d ∷ []))
 
       in-adc : (z : ℕ) → mem z e ≡ (eqb z b || mem z (a ∷ d ∷ c ∷ []))
-      in-adc z = second (eqb z a) (eqb z b) (mem z (c ∷ d ∷ [])) ∙ ap (λ p. eqb z b || (eqb z a || p)) (second (eqb z c) (eqb z d) false)
+      in-adc z = or-swap (eqb z a) (eqb z b) (mem z (c ∷ d ∷ [])) ∙ ap (λ p. eqb z b || (eqb z a || p)) (or-swap (eqb z c) (eqb z d) false)
 
       in-acb : (z : ℕ) → mem z e ≡ (eqb z d || mem z (a ∷ c ∷ b ∷ []))
       in-acb z =
           ap (λ p. eqb z a || p)
-          (ap (λ p. eqb z b || p) (second (eqb z c) (eqb z d) false)
-          ∙ (second (eqb z b) (eqb z d) (mem z (c ∷ []))
-          ∙ ap (λ p. eqb z d || p) (second (eqb z b) (eqb z c) false)))
-          ∙ second (eqb z a) (eqb z d) (mem z (c ∷ b ∷ []))
+          (ap (λ p. eqb z b || p) (or-swap (eqb z c) (eqb z d) false)
+          ∙ (or-swap (eqb z b) (eqb z d) (mem z (c ∷ []))
+          ∙ ap (λ p. eqb z d || p) (or-swap (eqb z b) (eqb z c) false)))
+          ∙ or-swap (eqb z a) (eqb z d) (mem z (c ∷ b ∷ []))
 
   -- a key stands among the keys of all faces as often as elements have its vertices
   pub times-star : (ts : List Tet) → Fours ts → times sameTriple f (map keyOf (allFaces ts)) ≡ star (cornersOf f) (map verticesOf ts)

@@ -19,6 +19,7 @@ use Rattle.mesh.proofs.Laws.Link.Members.{kept-elim, kept-intro}
 use Rattle.mesh.proofs.Laws.Link.Simplices.{rising, rising-head, rising-tail, rising-cons}
 use Rattle.mesh.proofs.Laws.Link.Keys.{three-nodup, flip≢}
 use Rattle.mesh.proofs.Laws.Link.Features.{mem-member, member-mem, labelsOf, features-of, features-in}
+use Rattle.mesh.proofs.Laws.Complex.Collapse.{onto-cases}
 
 -- ---- bits
 
@@ -228,18 +229,6 @@ module _ (stratum : ℕ → ℕ) (fs : List Triple) where
       ]
 
 -- ---- a gone into b
-
--- the vertices of a list with b in the place of a
-pub onto-cases : (a b z : ℕ) (e : List ℕ) → mem z (map (onto a b) e) ≡ true → ((mem z e ≡ true) × (z ≢ a)) ⊎ ((z ≡ b) × (mem a e ≡ true))
-onto-cases a b z [] h = absurd (mem-nil z h)
-onto-cases a b z (y ∷ e) h =
-    elim (mem-cases z (onto a b y) (map (onto a b) e) h) [
-      | inl p ↦ elim (split (eqb y a)) [
-        | inl q ↦ inr (rw q at p, rw (eqb-true y a q) (mem-here a e))
-        | inr q ↦ let r : z ≡ y = rw q at p in inl (rw r (mem-here y e), λ k. eqb-false y a q (sym r ∙ k))
-      ]
-      | inr p ↦ elim (onto-cases a b z e p) [ inl q ↦ inl (mem-there z y e (q .0), q .1) | inr q ↦ inr (q .0, mem-there a y e (q .1)) ]
-    ]
 
 pub onto-member : (a b z : ℕ) (e : List ℕ) → mem z e ≡ true → mem (onto a b z) (map (onto a b) e) ≡ true
 onto-member a b z [] h = absurd (mem-nil z h)

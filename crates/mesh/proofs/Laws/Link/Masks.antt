@@ -27,7 +27,8 @@ use Rattle.mesh.proofs.Laws.Link.Links.{simplex-decides}
 use Rattle.mesh.proofs.Laws.Link.Keys.{Fours, flip≢}
 use Rattle.mesh.proofs.Laws.Link.Boundary.{boundary-elim}
 use Rattle.mesh.proofs.Laws.Link.Features.{label-decides, otherEnd, neighbours-elim, neighbours-intro, mem-member, member-mem}
-use Rattle.mesh.proofs.Laws.Link.Labels.{shared-rising, shared-mem, label-comm, Distinct, Labelled, edge-elim, edge-intro, Sub-two, labelled-swap, features-elim, features-intro, features-at, onto-cases, onto-other, onto-a, mapped-distinct, mapped-elim, mapped-intro, expected-elim, expected-intro, expected-at}
+use Rattle.mesh.proofs.Laws.Link.Labels.{shared-rising, shared-mem, label-comm, Distinct, Labelled, edge-elim, edge-intro, Sub-two, labelled-swap, features-elim, features-intro, features-at, onto-other, onto-a, mapped-distinct, mapped-elim, mapped-intro, expected-elim, expected-intro, expected-at}
+use Rattle.mesh.proofs.Laws.Complex.Collapse.{onto-cases}
 
 -- ---- two bits
 

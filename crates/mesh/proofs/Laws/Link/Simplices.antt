@@ -14,6 +14,7 @@ use Rattle.mesh.specs.Tests.{every}
 use Rattle.mesh.specs.Sort.{insert, sort}
 use Rattle.mesh.specs.Link.{subsets}
 use Rattle.mesh.proofs.Laws.Complex.Sets.{split, nope, and-fst, and-snd, mem-here, mem-there, mem-cases, mem-nil, out-head, out-tail}
+use Rattle.mesh.proofs.Laws.Bools.{or-swap}
 
 -- each vertex below those behind it
 abbrev pub rising : List ℕ → Bool
@@ -66,12 +67,7 @@ rising-unique (x ∷ σ) (y ∷ τ) h k s t =
 pub insert-mem : (z x : ℕ) (l : List ℕ) → mem z (insert leb x l) ≡ mem z (x ∷ l)
 unfolding insert
 insert-mem z x [] = refl
-insert-mem z x (y ∷ l) = elim (split (leb x y)) [ inl h ↦ rw h refl | inr h ↦ rw h (ap (λ b. eqb z y || b) (insert-mem z x l) ∙ swap (eqb z y) (eqb z x) (mem z l)) ]
-  where
-    swap : (a b c : Bool) → (a || (b || c)) ≡ (b || (a || c))
-    swap true true c = refl
-    swap true false c = refl
-    swap false b c = refl
+insert-mem z x (y ∷ l) = elim (split (leb x y)) [ inl h ↦ rw h refl | inr h ↦ rw h (ap (λ b. eqb z y || b) (insert-mem z x l) ∙ or-swap (eqb z y) (eqb z x) (mem z l)) ]
 
 pub sort-mem : (z : ℕ) (l : List ℕ) → mem z (sort leb l) ≡ mem z l
 unfolding sort

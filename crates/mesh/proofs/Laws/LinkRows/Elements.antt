@@ -2,7 +2,7 @@
 -- the sorted rows pass exactly where the interior links meet. Assumes nothing.
 use mathlib.Core.Path.{_≡_, refl, sym, ap, subst, _∙_}
 use mathlib.Core.Logic.{_≢_, inl, inr}
-use mathlib.Core.Bool.{Bool, true, false, not}
+use mathlib.Core.Bool.{true, false}
 use mathlib.Core.List.{List, [], _∷_, _++_, map, List·Memᴰ, Memᴰ·map, Memᴰ·of-map}
 use Prim.Native.Nat.{ℕ, _+_, _*_, _/_, _%_, _≤_, _<_}
 use native.Mathlib.Omega.{arith}
@@ -20,7 +20,7 @@ use Rattle.mesh.specs.Group.{numbers, runs, sameFirst}
 use Rattle.mesh.specs.Intake.{tetAt}
 use Rattle.mesh.specs.Euler.{spread}
 use Rattle.mesh.specs.LinkRows.{mark, apex, opposite, linkFace, threeWords, elementRows, subsetAt, elementRowAt, meetRun}
-use Rattle.mesh.proofs.Laws.Complex.Sets.{split, clash, nope, and-fst, and-snd, mem-cases, mem-nil, out-head, out-tail, rm, rm-out, rm-mem, rm-none, rm-sub}
+use Rattle.mesh.proofs.Laws.Complex.Sets.{split, clash, nope, mem-cases, mem-nil, out-head, out-tail, rm, rm-out, rm-mem, rm-none, rm-sub}
 use Rattle.mesh.proofs.Laws.Euler.Areas.{spread-numbers}
 use Rattle.mesh.proofs.Laws.Euler.Faces.{spread-from, spread-in}
 use Rattle.mesh.proofs.Laws.Link.Members.{every-elim}
@@ -28,6 +28,7 @@ use Rattle.mesh.proofs.Laws.Link.Simplices.{rising, subset-elim, subset
 use Rattle.mesh.proofs.Laws.Link.Keys.{Fours, key-mem, key-rising, three-nodup}
 use Rattle.mesh.proofs.Laws.LinkRows.Marks.{three-pads, pad-mark}
 use Rattle.mesh.proofs.Laws.LinkRows.Meet.{Part, Listed, runs-meet}
+use Rattle.mesh.proofs.Laws.Complex.Tests.{nodup-sound}
 
 -- ---- the vertices but one
 
@@ -116,17 +117,8 @@ module _ (a b : ℕ) (t : Tet) (n : Nodup (verticesOf t)) where
 
 -- ---- rows of all elements
 
--- the test of four different vertices
-nodup-true : (l : List ℕ) → nodup l ≡ true → Nodup l
-nodup-true [] h = tt
-nodup-true (x ∷ l) h = (no (mem x l) (and-fst (not (mem x l)) (nodup l) h), nodup-true l (and-snd (not (mem x l)) (nodup l) h))
-  where
-    no : (p : Bool) → not p ≡ true → p ≡ false
-    no true e = sym e
-    no false e = refl
-
 pub fours : (ts : List Tet) → every (λ t. nodup (verticesOf t)) ts ≡ true → Fours ts
-fours ts h t m = nodup-true (verticesOf t) (every-elim (λ t. nodup (verticesOf t)) ts h m)
+fours ts h t m = nodup-sound (verticesOf t) (every-elim (λ t. nodup (verticesOf t)) ts h m)
 
 module _ (a b : ℕ) (ts : List Tet) (F : Fours ts) where
   row-there : (t : Tet) (σ : List ℕ) → List·Memᴰ t ts → Part 3 a b (map verticesOf ts) (verticesOf t) σ → List·Memᴰ (threeWords σ ++ (mark a b (verticesOf t) ∷ [])) (spread (elementRows a b) ts)

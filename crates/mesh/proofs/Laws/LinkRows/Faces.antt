@@ -20,15 +20,16 @@ use Rattle.mesh.specs.Element.{keyOf, cornersOf}
 use Rattle.mesh.specs.Boundary.{sameTriple, allFaces}
 use Rattle.mesh.specs.Link.{keysAbout, boundaryAbout}
 use Rattle.mesh.specs.Group.{runs, sameFirst}
-use Rattle.mesh.specs.Euler.{spread, triangleRows}
 use Rattle.mesh.specs.LinkRows.{mark, faceIn, aloneAbout, runFaces, facesAlone, aloneFaces}
 use Rattle.mesh.proofs.Laws.Complex.Sets.{split, clash, nope, and-fst, and-snd}
 use Rattle.mesh.proofs.Laws.Rows.{eqRow-sound}
-use Rattle.mesh.proofs.Laws.Manifold.Corners.{keep-map}
-use Rattle.mesh.proofs.Laws.Manifold.RowRuns.{every-run, every-map, every-same, kept-number}
+use Rattle.mesh.proofs.Laws.Manifold.RowRuns.{every-run, every-same, kept-number}
 use Rattle.mesh.proofs.Laws.Link.Members.{kept-elim, kept-intro, keep-same, every-elim, among-elim, among-intro}
 use Rattle.mesh.proofs.Laws.Link.Keys.{triple-decides}
 use Rattle.mesh.proofs.Laws.Link.Boundary.{times-keep}
+use Rattle.mesh.proofs.Laws.Boundary.Same.{keep-map}
+use Rattle.mesh.proofs.Laws.Boundary.Faces.{every-map}
+use Rattle.mesh.proofs.Laws.List.Meaning.{spread-faces}
 
 -- ---- the faces of all runs
 
@@ -83,12 +84,6 @@ words-face : (k f : Triple) → sameFirst 3 (cornersOf k) (cornersOf f) ≡ same
 unfolding eqRow
 words-face k f = ap (λ (p : Bool). eqb (k .a) (f .a) && (eqb (k .b) (f .b) && p)) (and-true (eqb (k .c) (f .c)))
 
--- the rows of all keys
-keys-rows : (ts : List Tet) → spread triangleRows ts ≡ map cornersOf (map keyOf (allFaces ts))
-unfolding spread allFaces
-keys-rows [] = refl
-keys-rows (t ∷ ts) = ap (λ (l : List (List ℕ)). triangleRows t ++ l) (keys-rows ts)
-
 module _ (a b : ℕ) (ks : List Triple) where
   abbrev S : List (List ℕ)
   S = sort leRow (map cornersOf ks)
@@ -126,7 +121,7 @@ module _ (a b : ℕ) (ts : List Tet) where
 
   alone-is : (f : Triple) → among sameTriple f (aloneFaces a b ts) ≡ not (every (λ k. not (here f k)) (map keyOf (allFaces ts)))
   unfolding aloneFaces
-  alone-is f = ap (λ (l : List (List ℕ)). among sameTriple f (facesAlone a b (runs (sameFirst 3) (sort leRow l)))) (keys-rows ts) ∙ alone-keys a b (map keyOf (allFaces ts)) f
+  alone-is f = ap (λ (l : List (List ℕ)). among sameTriple f (facesAlone a b (runs (sameFirst 3) (sort leRow l)))) (spread-faces ts) ∙ alone-keys a b (map keyOf (allFaces ts)) f
 
   -- the keys about the edge, as often as all keys
   times-about : (f : Triple) → (mem a (cornersOf f) || mem b (cornersOf f)) ≡ true → times sameTriple f (keysAbout a b ts) ≡ times sameTriple f (map keyOf (allFaces ts))

@@ -1,15 +1,11 @@
 -- The rows listed are the edges and the face keys of the bad elements, each once, in the order of their numbers. Assumes nothing.
 use mathlib.Core.Path.{_≡_, refl, ap, _∙_}
-use mathlib.Core.Logic.{inl, inr}
 use mathlib.Core.Bool.{Bool, true, false, cond, _&&_, and-true}
 use mathlib.Core.List.{List, [], _∷_, _++_, map}
-use native.Mathlib.Omega.{arith}
 use Prim.Native.Nat.{ℕ}
 use lib.Dec.{eqb, ltb}
-use borrow.Author.Tests.{le-ltb, ltb-true}
 use Rattle.geometry.specs.declared.point.Point.{Point}
 use Rattle.mesh.specs.declared.element.Pair.{Pair}
-use Rattle.mesh.specs.declared.element.Triple.{Triple}
 use Rattle.mesh.specs.declared.element.Tet.{Tet}
 use Rattle.mesh.specs.Sort.{sort, unique}
 use Rattle.mesh.specs.Rows.{leRow, eqRow}
@@ -17,9 +13,9 @@ use Rattle.mesh.specs.Complex.{keep}
 use Rattle.mesh.specs.Element.{keyOf, cornersOf, samePair}
 use Rattle.mesh.specs.Boundary.{sameTriple, leTriple, allFaces}
 use Rattle.mesh.specs.Euler.{spread, edgeRows, triangleRows}
-use Rattle.mesh.proofs.Laws.Bools.{split}
 use Rattle.mesh.proofs.Laws.Group.Images.{sort-map, unique-map}
 use Rattle.mesh.proofs.Laws.Group.Ranks.{last-le}
+use Rattle.mesh.proofs.Laws.Boundary.Order.{le-corners, eq-corners}
 use Rattle.mesh.specs.List.{badIn, setOf, badEdges, badFaces, allEdges, lePair}
 
 -- an edge as a row
@@ -34,24 +30,12 @@ pub eq-pair : (e f : Pair) → eqRow (pairRow e) (pairRow f) ≡ samePair e f
 unfolding eqRow
 eq-pair e f = ap (λ (b : Bool). eqb (e .a) (f .a) && b) (and-true (eqb (e .b) (f .b)))
 
-last-triple : (x y : ℕ) → cond (ltb x y) true (cond (ltb y x) false true) ≡ cond (ltb y x) false true
-last-triple x y = elim (split (ltb x y)) [ inl e ↦ (let h = ltb-true x y e in rw (e, le-ltb y x (omega arith)) refl) | inr e ↦ rw e refl ]
-
-le-corners : (f g : Triple) → leRow (cornersOf f) (cornersOf g) ≡ leTriple f g
-unfolding leRow leTriple
-le-corners f g =
-    ap (λ (b : Bool). cond (ltb (f .a) (g .a)) true (cond (ltb (g .a) (f .a)) false (cond (ltb (f .b) (g .b)) true (cond (ltb (g .b) (f .b)) false b)))) (last-triple (f .c) (g .c))
-
-eq-corners : (f g : Triple) → eqRow (cornersOf f) (cornersOf g) ≡ sameTriple f g
-unfolding eqRow
-eq-corners f g = ap (λ (b : Bool). eqb (f .a) (g .a) && (eqb (f .b) (g .b) && b)) (and-true (eqb (f .c) (g .c)))
-
 spread-edges : (ts : List Tet) → spread edgeRows ts ≡ map pairRow (allEdges ts)
 unfolding spread allEdges
 spread-edges [] = refl
 spread-edges (t ∷ ts) = ap (λ (l : List (List ℕ)). edgeRows t ++ l) (spread-edges ts)
 
-spread-faces : (ts : List Tet) → spread triangleRows ts ≡ map cornersOf (map keyOf (allFaces ts))
+pub spread-faces : (ts : List Tet) → spread triangleRows ts ≡ map cornersOf (map keyOf (allFaces ts))
 unfolding spread allFaces
 spread-faces [] = refl
 spread-faces (t ∷ ts) = ap (λ (l : List (List ℕ)). triangleRows t ++ l) (spread-faces ts)

@@ -87,16 +87,17 @@ module _ (a n w : ℕ) (s₀ s₁ : List ℕ) (h : 0 < w) (room : a + (n + n) * 
 
 -- ---- rows of the elements gathered behind the slots
 
+-- four words an element
+pub length-vertices : (l : List Tet) → length (flat (map verticesOf l)) ≡ 4 * length l
+unfolding flat
+length-vertices [] = refl
+length-vertices (t ∷ l) = omega (arith, length-vertices l)
+
 -- c rows of w words an element: `row` by number, f for an element
 module _ (w c : ℕ) (row : List ℕ → ℕ → List ℕ) (f : Tet → List (List ℕ)) (some : 0 < w) (wide : (i : ℕ) → (c * i + c * i) * w ≡ 24 * i)
     (size : (s : List ℕ) (j : ℕ) → length (row s j) ≡ w) (numbered : (s : List ℕ) (i : ℕ) → map (row s) (numbers 0 (c * i)) ≡ spread f (tets i s))
     (n k : ℕ) (ts : List Tet) (number : k ≡ length ts) (few : k ≤ n) (s₀ s₁ : List ℕ) (room : 32 * n ≤ length s₀) (kept : KeptBelow (4 * n) s₀ s₁)
     (e₁ : s₁ ≡ stacked (map verticesOf ts) 4 (4 * n) s₀) where
-  four : (l : List Tet) → length (flat (map verticesOf l)) ≡ 4 * length l
-  unfolding flat
-  four [] = refl
-  four (t ∷ l) = omega (arith, four l)
-
   part : drop (4 * n) s₁ ≡ flat (map verticesOf ts) ++ drop (4 * n + 4 * length (map verticesOf ts)) s₀
   unfolding stacked
   part =
@@ -140,7 +141,7 @@ module _ (w c : ℕ) (row : List ℕ → ℕ → List ℕ) (f : Tet → List (Li
         take-add (4 * n) (4 * k) s₂
         ∙ ap₂ (λ (u v : List ℕ). u ++ v) (rows-kept .front ∙ kept .front)
         (ap (take (4 * k)) behind ∙ listed .front ∙ ap (take (4 * k)) part
-        ∙ take-at (flat (map verticesOf ts)) (drop (4 * n + 4 * length (map verticesOf ts)) s₀) (4 * k) (four ts ∙ ap (λ (u : ℕ). 4 * u) (sym number)))
+        ∙ take-at (flat (map verticesOf ts)) (drop (4 * n + 4 * length (map verticesOf ts)) s₀) (4 * k) (length-vertices ts ∙ ap (λ (u : ℕ). 4 * u) (sym number)))
 
     module _ (m : ℕ) (s₃ : List ℕ) (q : m ≡ length (setOf (rows w (c * k) (drop (4 * n + 4 * k) s₂))))
         (e₃ : s₃ ≡ take (4 * n + 4 * k) s₂ ++ (flat (setOf (rows w (c * k) (drop (4 * n + 4 * k) s₂)))
@@ -153,7 +154,7 @@ module _ (w c : ℕ) (row : List ℕ → ℕ → List ℕ) (f : Tet → List (Li
           e₃
           ∙ ap (λ (l : List (List ℕ)). take (4 * n + 4 * k) s₂ ++ (flat (setOf l) ++ zeroWords (length s₂ - (4 * n + 4 * k + length (flat (setOf l)))))) rows-are
           ∙ ap₂ (λ (u : List ℕ) (i : ℕ). u ++ (flat (setOf (spread f ts)) ++ zeroWords (i - (4 * n + 4 * k + length (flat (setOf (spread f ts))))))) front₂ rows-long
-          ∙ ap (λ (i : ℕ). (take (4 * n) s₀ ++ flat (map verticesOf ts)) ++ (flat (setOf (spread f ts)) ++ zeroWords (length s₀ - (4 * n + i + length (flat (setOf (spread f ts))))))) (ap (λ (u : ℕ). 4 * u) number ∙ sym (four ts))
+          ∙ ap (λ (i : ℕ). (take (4 * n) s₀ ++ flat (map verticesOf ts)) ++ (flat (setOf (spread f ts)) ++ zeroWords (length s₀ - (4 * n + i + length (flat (setOf (spread f ts))))))) (ap (λ (u : ℕ). 4 * u) number ∙ sym (length-vertices ts))
           ∙ append-assoc (take (4 * n) s₀) (flat (map verticesOf ts)) (flat (setOf (spread f ts)) ++ zeroWords (length s₀ - (4 * n + length (flat (map verticesOf ts)) + length (flat (setOf (spread f ts))))))
 
 -- ---- the whole

@@ -27,7 +27,9 @@ use Rattle.mesh.proofs.Laws.Link.Members.{keep-same}
 use Rattle.mesh.specs.Group.{runs, sameFirst}
 use Rattle.mesh.specs.Manifold.{triples, cornerAt, edgeRow, linkRow, linkPair, pairBelow, two, cycle}
 use Rattle.mesh.proofs.Laws.Manifold.Kept.{Steady, none, more}
-use Rattle.mesh.proofs.Laws.Manifold.RowRuns.{every-map, every-same, every-run, kept-number, kept-steady}
+use Rattle.mesh.proofs.Laws.Manifold.RowRuns.{every-same, every-run, kept-number, kept-steady}
+use Rattle.mesh.proofs.Laws.Boundary.Same.{keep-map}
+use Rattle.mesh.proofs.Laws.Boundary.Faces.{every-map}
 
 -- ---- three corners
 
@@ -86,10 +88,6 @@ edge-rows-from s (suc k) i =
 
 edge-rows : (s : List ℕ) (n : ℕ) → map (edgeRow s) (numbers 0 (3 * n)) ≡ map pairRow (surfaceEdges (triples n s))
 edge-rows s n = edge-rows-from s n 0
-
-pub keep-map : {A B : Type 0} (f : A → B) (p : B → Bool) (l : List A) → keep p (map f l) ≡ map f (keep (λ x. p (f x)) l)
-keep-map f p [] = refl
-keep-map f p (x ∷ l) = elim (split (p (f x))) [ inl e ↦ rw e (ap (λ u. f x ∷ u) (keep-map f p l)) | inr e ↦ rw e (keep-map f p l) ]
 
 same-pair : (e f : Pair) → sameFirst 2 (pairRow e) (pairRow f) ≡ samePair e f
 unfolding eqRow
@@ -232,7 +230,7 @@ every-getD p [] i d h k = absurd (not-suc-le-zero k)
 every-getD p (x ∷ l) zero d h k = and-left (p x) (every p l) h
 every-getD p (x ∷ l) (suc i) d h k = every-getD p l i d (and-right (p x) (every p l) h) (le-of-suc-le-suc k)
 
-every-numbers : (p : ℕ → Bool) (k n : ℕ) → ((j : ℕ) → k ≤ j → j < k + n → p j ≡ true) → every p (numbers k n) ≡ true
+pub every-numbers : (p : ℕ → Bool) (k n : ℕ) → ((j : ℕ) → k ≤ j → j < k + n → p j ≡ true) → every p (numbers k n) ≡ true
 unfolding numbers
 every-numbers p k zero h = refl
 every-numbers p k (suc n) h = and-intro (p k) (every p (numbers (k + 1) n)) (h k (omega arith) (omega arith)) (every-numbers p (k + 1) n (λ j a b. h j (omega arith) (omega arith)))

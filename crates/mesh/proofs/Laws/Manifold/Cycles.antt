@@ -20,10 +20,10 @@ use Rattle.mesh.proofs.Laws.Bools.{and-left, and-right}
 use Rattle.mesh.proofs.Laws.Rows.{rows-at, length-rows, take-rows, drop-rows}
 use Rattle.mesh.specs.Group.{runs, sameFirst}
 use Rattle.mesh.specs.Manifold.{linkPair, cycle, pairBelow, Low, Marked, KeptBelow, Grown, LinkRun, LinkArea}
-use Rattle.mesh.proofs.Laws.Manifold.RowRuns.{every-map}
 use Rattle.mesh.proofs.Laws.Manifold.Corners.{every-getD}
 use Rattle.mesh.proofs.Laws.Manifold.Growth.{kept-self, kept-set, kept-both, grown-more, low-marked, marked-low, Reaching, reach-start, reach-turn, reach-stop, reach-end, cycle-is}
 use Rattle.mesh.proofs.Laws.Manifold.Steps.{word-below, rows-below, run-some, run-few, run-is, runs-turn, runs-fail, runs-end}
+use Rattle.mesh.proofs.Laws.Boundary.Faces.{every-map}
 
 -- the pairs of k link rows from p on
 abbrev pub pairsAt : ℕ → ℕ → List ℕ → List Pair

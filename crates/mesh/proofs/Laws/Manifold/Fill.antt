@@ -1,13 +1,19 @@
 -- Rows written one behind the other into an area, from a place on. Assumes nothing.
 use mathlib.Core.Path.{_≡_, refl, sym, ap, ap₂, _∙_}
+use mathlib.Core.Logic.{inl, inr}
+use mathlib.Core.Bool.{true}
 use mathlib.Core.List.{List, [], _∷_, _++_, map, append-assoc, append-nil, map-append}
-use Prim.Native.Nat.{ℕ, zero, suc, _+_, _-_, _*_, _≤_}
+use Prim.Native.Nat.{ℕ, zero, suc, _+_, _-_, _*_, _≤_, _<_}
 use native.Mathlib.Numerals.{add-one}
 use native.Mathlib.Omega.{arith}
+use lib.Dec.{eqb}
 use lib.ListN.{length, take, drop, length-append, length-drop, take-append-drop}
 use lib.Seq.{length-take-le, take-all, take-at, drop-at, drop-drop, paste}
+use borrow.Author.Tests.{eqb-false}
 use Rattle.mesh.specs.Rows.{rows, flat}
+use Rattle.mesh.specs.Complex.{mem}
 use Rattle.mesh.specs.Group.{numbers}
+use Rattle.mesh.proofs.Laws.Complex.Sets.{split, mem-there}
 use Rattle.mesh.proofs.Laws.Rows.{Shape, none, more, rows-flat, length-flat}
 use Rattle.mesh.specs.Manifold.{filled, KeptBelow}
 
@@ -17,6 +23,15 @@ pub length-numbers : (k n : ℕ) → length (numbers k n) ≡ n
 unfolding numbers
 length-numbers k zero = refl
 length-numbers k (suc n) = ap suc (length-numbers (k + 1) n)
+
+pub numbers-mem : (k n x : ℕ) → k ≤ x → x < k + n → mem x (numbers k n) ≡ true
+unfolding numbers
+numbers-mem k zero x l u = absurd (omega arith)
+numbers-mem k (suc n) x l u =
+    elim (split (eqb x k)) [
+      | inl h ↦ rw h refl
+      | inr h ↦ let ne = eqb-false x k h in mem-there x k (numbers (k + 1) n) (numbers-mem (k + 1) n x (omega arith) (omega arith))
+    ]
 
 pub numbers-more : (k n : ℕ) → numbers k (suc n) ≡ numbers k n ++ ((k + n) ∷ [])
 unfolding numbers

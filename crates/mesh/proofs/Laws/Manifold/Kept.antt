@@ -8,7 +8,7 @@ use Rattle.mesh.specs.Sort.{insert, sort, headed, ordered}
 use Rattle.mesh.specs.Complex.{keep}
 use Rattle.mesh.specs.Tests.{every}
 use Rattle.mesh.proofs.Laws.Bools.{split, and-intro, and-left, and-right}
-use Rattle.mesh.proofs.Laws.Sort.{ordered-tail, ordered-sort, sort-ordered}
+use Rattle.mesh.proofs.Laws.Sort.{ordered-tail, ordered-sort, sort-ordered, insert-front}
 use Rattle.mesh.proofs.Laws.Link.Members.{kept-elim}
 
 -- ---- a test of all elements of a sort
@@ -45,11 +45,6 @@ module _ {A : Type 0} (le : A → A → Bool) (trans : (a b c : A) → le a b �
         | inr e ↦ rw e (headed-kept x z l (trans x y z h (and-left (le y z) (ordered le (z ∷ l)) k)) (and-right (le y z) (ordered le (z ∷ l)) k))
       ]
 
-  insert-front : (x : A) (l : List A) → headed le x l ≡ true → insert le x l ≡ x ∷ l
-  unfolding insert headed
-  insert-front x [] h = refl
-  insert-front x (y ∷ l) h = simp h
-
   keep-insert : (x : A) (l : List A) → ordered le l ≡ true → keep p (insert le x l) ≡ cond (p x) (insert le x (keep p l)) (keep p l)
   unfolding insert
   keep-insert x [] h = elim (split (p x)) [ inl e ↦ rw e refl | inr e ↦ rw e refl ]
@@ -63,7 +58,7 @@ module _ {A : Type 0} (le : A → A → Bool) (trans : (a b c : A) → le a b �
       later e false false f g ih = ih
 
       first : le x y ≡ true → (a : Bool) → p x ≡ a → cond a (x ∷ keep p (y ∷ l)) (keep p (y ∷ l)) ≡ cond a (insert le x (keep p (y ∷ l))) (keep p (y ∷ l))
-      first e true f = sym (insert-front x (keep p (y ∷ l)) (headed-kept x y l e h))
+      first e true f = sym (insert-front le x (keep p (y ∷ l)) (headed-kept x y l e h))
       first e false f = refl
 
       go : (b : Bool) → le x y ≡ b → keep p (insert le x l) ≡ cond (p x) (insert le x (keep p l)) (keep p l)

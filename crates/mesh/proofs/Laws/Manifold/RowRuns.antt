@@ -14,10 +14,7 @@ use Rattle.mesh.proofs.Laws.Rows.{leRow-trans, leRow-total, leRow-anti,
 use Rattle.mesh.specs.Group.{runs, sameFirst}
 use Rattle.mesh.proofs.Laws.Manifold.Kept.{every-sort, keep-sort, keep-sort-ordered, Steady, steady-ordered}
 use Rattle.mesh.proofs.Laws.Manifold.Runs.{runs-turn, runs-keys, every-unique, keep-alike}
-
-pub every-map : {A B : Type 0} (f : A → B) (p : B → Bool) (l : List A) → every p (map f l) ≡ every (λ x. p (f x)) l
-every-map f p [] = refl
-every-map f p (x ∷ l) = ap (λ (b : Bool). p (f x) && b) (every-map f p l)
+use Rattle.mesh.proofs.Laws.Boundary.Faces.{every-map}
 
 pub every-same : {A : Type 0} (p q : A → Bool) (l : List A) → ((x : A) → p x ≡ q x) → every p l ≡ every q l
 every-same p q [] h = refl

@@ -1,15 +1,14 @@
 -- Words of an area that are kept, rows that are written, sorted and cleared behind them, and scans over words and runs. Assumes nothing.
 use mathlib.Core.Path.{_≡_, refl, sym, ap, ap₂, _∙_}
 use mathlib.Core.Bool.{Bool, true, false, cond, _&&_}
-use mathlib.Core.List.{List, [], _∷_, _++_, append-nil}
-use Prim.Native.Nat.{ℕ, zero, suc, _+_, _-_, _*_, _/_, _%_, _≤_, _<_, min, max}
+use mathlib.Core.List.{List, [], _∷_, _++_}
+use Prim.Native.Nat.{ℕ, suc, _+_, _-_, _*_, _/_, _%_, _≤_, _<_, min, max}
 use native.Mathlib.Numerals.{add-one}
 use native.Mathlib.Omega.{arith}
 use lib.Dec.{eqb, ltb, leb}
 use lib.ListN.{length, take, drop, getD, set, length-append, length-drop, length-replicate, drop-of-length-le}
-use lib.Seq.{getD-take, getD-append-add, length-take-le, take-all, take-at, drop-at, drop-cons, drop-drop, take-take, paste, sets-eq}
+use lib.Seq.{getD-take, getD-append-add, length-take-le, take-at, drop-at, drop-cons, drop-drop, take-take, paste, sets-eq}
 use borrow.Author.Tests.{le-leb, lt-ltb}
-use borrow.Rule.Slice.PartMut.{midOf, putMid}
 use Rattle.mesh.specs.Words.{wordAt, zeroWords}
 use Rattle.mesh.specs.Sort.{sort, leading}
 use Rattle.mesh.specs.Rows.{rows, leRow, eqRow, fitRows, sortedArea, run, runLength}
@@ -22,6 +21,7 @@ use Rattle.mesh.specs.Group.{runs, sameFirst}
 use Rattle.mesh.specs.Manifold.{cornerAt, edgeRow, linkRow, filled, two, KeptBelow}
 use Rattle.mesh.proofs.Laws.Manifold.Fill.{fill-front, fill-turn}
 use Rattle.mesh.proofs.Laws.Manifold.RowRuns.{run-first, run-turn}
+use Rattle.mesh.proofs.Laws.Parts.{zero-word}
 
 -- ---- words that are kept
 
@@ -54,23 +54,7 @@ put-down s p x y h l =
     let f : x ≡ max x y = omega arith in
     put-two s p y x h ∙ ap₂ (λ (u v : ℕ). paste s p (u ∷ v ∷ []) 2) e f
 
-pub put-four : (s : List ℕ) (p a b c d : ℕ) → p + 4 ≤ length s
-    → set (set (set (set s p a) (p + 1) b) (p + 2) c) (p + 3) d ≡ paste s p (a ∷ b ∷ c ∷ d ∷ []) 4
-put-four s p a b c d h =
-    let e₁ : p + 1 ≡ suc p = omega arith in
-    let e₂ : p + 2 ≡ suc (suc p) = omega arith in
-    let e₃ : p + 3 ≡ suc (suc (suc p)) = omega arith in
-    rw (e₁, e₂, e₃) (sets-eq (a ∷ b ∷ c ∷ d ∷ []) s p h)
-
 -- ---- a part that reaches to the end
-
-pub tail-mid : (a : ℕ) (s : List ℕ) → midOf a (length s - a) s ≡ drop a s
-tail-mid a s = take-all (length s - a) (drop a s) (omega (arith, length-drop a s))
-
-pub tail-put : (a : ℕ) (s y : List ℕ) → putMid a (length s - a) s y ≡ take a s ++ y
-tail-put a s y =
-    ap (λ (u : List ℕ). take a s ++ (y ++ u)) (drop-of-length-le (drop a s) {i = length s - a} (omega (arith, length-drop a s)))
-    ∙ ap (λ (u : List ℕ). take a s ++ u) (append-nil y)
 
 -- new words behind the first a
 pub put-kept : (a : ℕ) (s s′ y : List ℕ) → a ≤ length s → length y ≡ length s - a → s′ ≡ take a s ++ y → KeptBelow a s s′
@@ -101,12 +85,7 @@ module _ (a : ℕ) (s s′ : List ℕ) (h : a ≤ length s) (e : s′ ≡ take a
       ap (λ (u : List ℕ). wordAt u (a + x)) e
       ∙ ap (λ (u : ℕ). wordAt (take a s ++ zeroWords (length s - a)) (u + x)) (sym (length-take-le a s h))
       ∙ getD-append-add (take a s) (zeroWords (length s - a)) x 0
-      ∙ zero-at (length s - a) x
-    where
-      zero-at : (n x : ℕ) → wordAt (zeroWords n) x ≡ 0
-      zero-at zero x = refl
-      zero-at (suc n) zero = refl
-      zero-at (suc n) (suc x) = zero-at n x
+      ∙ zero-word (length s - a) x
 
 -- ---- a scan of words
 
@@ -159,7 +138,7 @@ module _ (test : List (List ℕ) → Bool) (kw : ℕ) (rs : List (List ℕ)) (fi
   unfolding runs
   runs-end h e = sym (ap (λ (l : List (List ℕ)). every test (runs (sameFirst kw) l)) (drop-of-length-le rs {i = first} h)) ∙ e
 
-leading-few : (p : List ℕ → Bool) (l : List (List ℕ)) → leading p l ≤ length l
+pub leading-few : {A : Type 0} (p : A → Bool) (l : List A) → leading p l ≤ length l
 unfolding leading
 leading-few p [] = omega arith
 leading-few p (x ∷ l) = go (p x) (leading-few p l)

@@ -48,7 +48,7 @@ fits-is n s h =
 
 -- ---- triples that are kept
 
-triples-take : (n : ℕ) (s t : List ℕ) → ((j : ℕ) → j < 3 * n → wordAt s j ≡ wordAt t j) → triples n s ≡ triples n t
+pub triples-take : (n : ℕ) (s t : List ℕ) → ((j : ℕ) → j < 3 * n → wordAt s j ≡ wordAt t j) → triples n s ≡ triples n t
 unfolding triples
 triples-take zero s t h = refl
 triples-take (suc n) s t h =

@@ -80,7 +80,7 @@ unfolding allEdges
 all-append [] m = refl
 all-append (t ∷ l) m = ap (λ (u : List Pair). edgesOf t ++ u) (all-append l m) ∙ sym (append-assoc (edgesOf t) (allEdges l) (allEdges m))
 
-length-all : (l : List Tet) → length (allEdges l) ≡ 6 * length l
+pub length-all : (l : List Tet) → length (allEdges l) ≡ 6 * length l
 unfolding allEdges
 length-all [] = refl
 length-all (t ∷ l) = omega (arith, length-all l)

@@ -39,7 +39,7 @@ nodup-join [] b d e h = e
 nodup-join (y ∷ a) b d e h =
     (nope (λ m. elim (mem-either y a b m) [ inl n ↦ clash n (d .0) | inr n ↦ h y (mem-here y a) n ]), nodup-join a b (d .1) e (λ x m n. h x (mem-there x y a m) n))
 
-length-upTo : (k : ℕ) → length (upTo k) ≡ k
+pub length-upTo : (k : ℕ) → length (upTo k) ≡ k
 length-upTo zero = refl
 length-upTo (suc k) = ap suc (length-upTo k)
 

@@ -18,7 +18,8 @@ use Rattle.mesh.proofs.Laws.Complex.Sets.{split, same, or-cases, or-lef
 use Rattle.mesh.proofs.Laws.Star.Layout.{room-yes}
 use Rattle.mesh.proofs.Laws.Star.Chains.{mem-left, mem-right, mem-either, length-none, chain-none, one-short, two-short}
 use Rattle.mesh.proofs.Laws.Star.Distinct.{distinct-is, distinct-same}
-use Rattle.mesh.proofs.Laws.Star.Scan.{star-out, star-in, star-rising, length-tets, tets-vertices, others-out, others-in}
+use Rattle.mesh.proofs.Laws.Star.Scan.{star-out, star-in, star-rising, tets-vertices, others-out, others-in}
+use Rattle.mesh.proofs.Laws.Intake.Reads.{length-tets}
 
 pub gather-out : (f : ℕ → List ℕ) (ps : List ℕ) (e : ℕ) → mem e (gather f ps) ≡ true → (p : ℕ) × (mem p ps ≡ true) × (mem e (f p) ≡ true)
 unfolding gather

@@ -51,11 +51,6 @@ module _ (v w : ℕ) where
 
 -- ---- the elements of a list of words
 
-pub length-tets : (n : ℕ) (u : List ℕ) → length (tets n u) ≡ n
-unfolding tets
-length-tets zero u = refl
-length-tets (suc n) u = ap suc (length-tets n (drop 4 u))
-
 -- the vertices of the element d are the four words at 4 d
 pub tets-vertices : (n : ℕ) (u : List ℕ) (d : ℕ) (z : Tet) → d < n
     → verticesOf (getD (tets n u) d z) ≡ wordAt u (4 * d) ∷ wordAt u (4 * d + 1) ∷ wordAt u (4 * d + 2) ∷ wordAt u (4 * d + 3) ∷ []

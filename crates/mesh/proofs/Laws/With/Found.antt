@@ -20,12 +20,12 @@ use Rattle.mesh.proofs.Laws.Complex.Sets.{split, clash, same, or-cases,
 use Rattle.mesh.proofs.Laws.Star.Layout.{room-yes}
 use Rattle.mesh.proofs.Laws.Star.Chains.{one-short}
 use Rattle.mesh.proofs.Laws.Star.Distinct.{distinct-is}
-use Rattle.mesh.proofs.Laws.Star.Scan.{length-tets}
 use Rattle.mesh.proofs.Laws.Star.Numbers.{pass-out, pass-in, pass-rising, any-out, any-in}
 use Rattle.mesh.proofs.Laws.Star.Found.{gather-out, gather-in, corner-out, slot-vertices}
 use Rattle.mesh.proofs.Laws.Star.Answers.{length-listed, listed-below, listed-part}
 use Rattle.mesh.proofs.Laws.Star.Calls.{Answered}
 use Rattle.mesh.proofs.Laws.With.Walk.{with-none, with-one, met-short}
+use Rattle.mesh.proofs.Laws.Intake.Reads.{length-tets}
 
 -- ---- one of the elements passes
 

@@ -1,10 +1,10 @@
 -- `mesh::euler::put_triangle` meets its contract: three stores are a paste. Assumes nothing.
 use native.Mathlib.Omega.{arith}
 use lib.ListN.{length-set}
-use Rattle.mesh.proofs.Laws.Euler.Areas.{put-three}
 use borrow.Author.Needs.{needs}
 use Rattle.mesh.proofs.euler.put_triangle.Statement.{statement}
 use Rattle.mesh.proofs.euler.put_triangle.Tie as tie
+use Rattle.mesh.proofs.Laws.Boundary.Writes.{put-three}
 
 mul-area : tie.Need-mul-area
 mul-area c = search needs

@@ -1,10 +1,10 @@
 -- `mesh::intake::put_tet` meets its contract: four stores are a paste. Assumes nothing.
 use native.Mathlib.Omega.{arith}
 use lib.ListN.{length-set}
-use Rattle.mesh.proofs.Laws.Intake.Area.{put-four}
 use borrow.Author.Needs.{needs}
 use Rattle.mesh.proofs.intake.put_tet.Statement.{statement}
 use Rattle.mesh.proofs.intake.put_tet.Tie as tie
+use Rattle.mesh.proofs.Laws.Boundary.Writes.{put-four}
 
 mul-s : tie.Need-mul-s
 mul-s c = search needs

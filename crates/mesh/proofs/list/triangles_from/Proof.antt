@@ -6,7 +6,7 @@ use native.Mathlib.Omega.{arith}
 use lib.ListN.{length, take}
 use Rattle.mesh.specs.Manifold.{filled}
 use Rattle.mesh.specs.Euler.{triangleRowAt}
-use Rattle.mesh.proofs.Laws.Manifold.Steps.{tail-mid, tail-put}
+use Rattle.mesh.proofs.Laws.Parts.{tail-mid, tail-put}
 use borrow.Author.Needs.{needs}
 use Rattle.mesh.proofs.list.triangles_from.Statement.{statement}
 use Rattle.mesh.proofs.list.triangles_from.Tie as tie

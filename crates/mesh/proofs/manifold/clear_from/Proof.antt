@@ -4,7 +4,7 @@ use mathlib.Core.List.{List, _++_}
 use Prim.Native.Nat.{ℕ}
 use lib.ListN.{length, take, length-drop}
 use Rattle.mesh.specs.Words.{zeroWords}
-use Rattle.mesh.proofs.Laws.Manifold.Steps.{tail-mid, tail-put}
+use Rattle.mesh.proofs.Laws.Parts.{tail-mid, tail-put}
 use borrow.Author.Needs.{needs}
 use Rattle.mesh.proofs.manifold.clear_from.Statement.{statement}
 use Rattle.mesh.proofs.manifold.clear_from.Tie as tie

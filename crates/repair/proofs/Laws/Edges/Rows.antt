@@ -19,12 +19,8 @@ use Rattle.mesh.specs.Short.{short, leEdge, shortEdges, edgeRow}
 use Rattle.mesh.proofs.Laws.Boundary.Same.{length-keep}
 use Rattle.mesh.proofs.Laws.Sort.{length-sort}
 use Rattle.mesh.proofs.Laws.Unique.{length-unique}
+use Rattle.mesh.proofs.Laws.Short.Loops.{length-all}
 use Rattle.repair.specs.Layout.{edgesOf}
-
-length-all : (ts : List Tet) → length (allEdges ts) ≡ 6 * length ts
-unfolding allEdges
-length-all [] = refl
-length-all (t ∷ ts) = omega (arith, length-all ts)
 
 -- no more than six edges an element
 pub short-few : (ps : List Point) (limit : Float) (ts : List Tet) → length (shortEdges ps limit ts) ≤ 6 * length ts

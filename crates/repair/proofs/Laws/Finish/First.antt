@@ -3,7 +3,7 @@ use mathlib.Core.Path.{_≡_, refl, sym, ap, _∙_}
 use mathlib.Core.Logic.{inl, inr}
 use mathlib.Core.Bool.{Bool, true, false, not, cond, _||_, and-true, and-false, or-false}
 use mathlib.Core.List.{List, [], _∷_, _++_, append-nil}
-use Prim.Native.Nat.{ℕ, zero, suc, _+_, _≤_, _<_}
+use Prim.Native.Nat.{ℕ, suc, _+_, _≤_, _<_}
 use native.Mathlib.Omega.{arith}
 use borrow.Author.Tests.{eqb-true, eqb-false, eq-eqb, ne-eqb}
 use lib.Dec.{eqb}
@@ -11,6 +11,7 @@ use lib.ListN.{length}
 use Rattle.mesh.specs.Complex.{mem, keep, upTo, Nodup}
 use Rattle.mesh.proofs.Laws.Complex.Tets.{upTo-mem}
 use Rattle.mesh.proofs.Laws.Complex.Sets.{split, clash, nope, mem-here, mem-there, mem-cases, mem-nil, keep-mem, keep-nodup, short}
+use Rattle.mesh.proofs.Laws.Star.Chains.{length-upTo}
 use Rattle.repair.specs.Improve.{firstUses, placeOf}
 
 -- ---- lists with one vertex more
@@ -76,15 +77,11 @@ first-nodup (v ∷ vs) = (
   keep-nodup (λ x. not (eqb x v)) (firstUses vs) (first-nodup vs),
 )
 
-upTo-length : (n : ℕ) → length (upTo n) ≡ n
-upTo-length zero = refl
-upTo-length (suc n) = ap suc (upTo-length n)
-
 -- not more than there are numbers
 pub first-few : (n : ℕ) (vs : List ℕ) → ((v : ℕ) → mem v vs ≡ true → v < n) → length (firstUses vs) ≤ n
 first-few n vs h =
     let k = short (firstUses vs) (upTo n) (first-nodup vs) (λ v m. upTo-mem n v (h v (sym (first-same v vs) ∙ m))) in
-    omega (arith, upTo-length n)
+    omega (arith, length-upTo n)
 
 -- ---- places
 

@@ -13,7 +13,8 @@ use Rattle.mesh.specs.Manifold.{surfaceVertices}
 use Rattle.mesh.proofs.Laws.Bools.{and-left, and-right}
 use Rattle.repair.specs.Improve.{allVertices}
 use Rattle.repair.specs.Step.{tripleWords}
-use Rattle.repair.proofs.Laws.Improve.Edges.{every-keep, every-sort}
+use Rattle.repair.proofs.Laws.Improve.Edges.{every-keep}
+use Rattle.mesh.proofs.Laws.Boundary.Same.{sort-every}
 
 -- ---- vertices of the boundary
 
@@ -45,7 +46,7 @@ pub boundary-every : (q : ℕ → Bool) (ts : List Tet) → every q (allVertices
 unfolding boundaryOf singles
 boundary-every q ts h =
     corners-every q (boundaryOf ts)
-    (every-sort (λ f. every q (cornersOf f)) leTriple (singles (allFaces ts))
+    (sort-every (λ f. every q (cornersOf f)) leTriple (singles (allFaces ts))
     (every-keep (λ f. every q (cornersOf f)) _ (allFaces ts) (faces-every q ts h)))
 
 -- ---- words of the boundary

@@ -28,7 +28,6 @@ use Rattle.mesh.proofs.Laws.Link.Simplices.{every-mem, rising, rising-head, ris
 use Rattle.mesh.proofs.Laws.Link.Keys.{Fours, key-mem}
 use Rattle.mesh.proofs.Laws.List.Meaning.{pairRow, bad-edges}
 use Rattle.mesh.proofs.Laws.Intake.Upright.{below}
-use Rattle.mesh.proofs.Laws.Manifold.RowRuns.{every-map}
 use Rattle.repair.specs.Mesh.{measure, edge, allEdges, lePair, isBad}
 use Rattle.repair.specs.Flip.{listedEdges}
 use Rattle.repair.specs.FlipTries.{FaceListed, FacesListed, EdgesListed, edgeRow}
@@ -37,9 +36,11 @@ use Rattle.repair.proofs.Laws.Finish.Elements.{all-below}
 use Rattle.repair.proofs.Laws.Finish.Surface.{faces-every}
 use Rattle.repair.proofs.Laws.Improve.Intake.{numbered-element}
 use Rattle.repair.proofs.Laws.Improve.Short.{Live, bad-same, edges-same}
-use Rattle.repair.proofs.Laws.Improve.Edges.{every-keep, every-sort, every-unique, joins, edges-join}
+use Rattle.repair.proofs.Laws.Improve.Edges.{every-keep, every-unique, joins, edges-join}
 use Rattle.repair.proofs.Laws.Flip.Listed.{keys-rise}
 use Rattle.repair.proofs.Laws.Flip.Shared.{owners-numbers}
+use Rattle.mesh.proofs.Laws.Boundary.Faces.{every-map}
+use Rattle.mesh.proofs.Laws.Boundary.Same.{sort-every}
 
 -- ---- well numbered elements
 
@@ -101,7 +102,7 @@ module _ (nv : ℕ) (ts : List Tet) (well : every (wellNumbered nv) ts ≡ true)
     -- a shared face passes what all keys of bad elements pass
     shared-every : (p : Triple → Bool) → every p (map keyOf (allFaces bads)) ≡ true → every p (sharedFaces ps ts) ≡ true
     unfolding sharedFaces badKeys
-    shared-every p h = every-keep p (hasTwo ts) (badKeys ps ts) (every-unique p sameTriple (sort leTriple (map keyOf (allFaces bads))) (every-sort p leTriple (map keyOf (allFaces bads)) h))
+    shared-every p h = every-keep p (hasTwo ts) (badKeys ps ts) (every-unique p sameTriple (sort leTriple (map keyOf (allFaces bads))) (sort-every p leTriple (map keyOf (allFaces bads)) h))
 
     shared-two : every (hasTwo ts) (sharedFaces ps ts) ≡ true
     unfolding sharedFaces
@@ -149,7 +150,7 @@ unfolding listedEdges
 edges-listed nv ps ts h =
     let bads = keep (isBad (measure ps)) ts in
     let through : (p : Pair → Bool) → every p (allEdges bads) ≡ true → every p (unique samePair (sort lePair (allEdges bads))) ≡ true =
-    λ p k. every-unique p samePair (sort lePair (allEdges bads)) (every-sort p lePair (allEdges bads) k) in
+    λ p k. every-unique p samePair (sort lePair (allEdges bads)) (sort-every p lePair (allEdges bads) k) in
     all-rise nv (unique samePair (sort lePair (allEdges bads)))
     (through (joins nv) (edges-join nv bads (λ t m. numbered-element nv t (every-elim (wellNumbered nv) ts h (kept-elim (isBad (measure ps)) ts m .0)))))
     (through (λ e. leb (e .a) (e .b)) (edges-rise bads))

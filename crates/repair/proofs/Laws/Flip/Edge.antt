@@ -2,18 +2,18 @@
 -- elements, or nothing. Assumes nothing.
 use mathlib.Core.Path.{_≡_, refl, sym, ap, subst, _∙_}
 use mathlib.Core.Logic.{_≢_, inl, inr}
-use mathlib.Core.Bool.{Bool, true, false, not, cond, _&&_, _||_}
+use mathlib.Core.Bool.{Bool, true, false, not, cond, _&&_}
 use mathlib.Core.List.{List, [], _∷_, List·Memᴰ, List·Memᴰ·not-nil, List·Memᴰ·cases-cons, Memᴰ·of-map}
 use Prim.Native.Nat.{ℕ, _≤_}
 use native.Mathlib.Omega.{arith}
-use borrow.Author.Tests.{eqb-true, eq-eqb, leb-true, leb-false, not-true, le-leb}
+use borrow.Author.Tests.{eqb-true, eq-eqb, leb-false, not-true}
 use lib.Dec.{eqb, leb}
 use lib.ListN.{length, getD}
 use Rattle.geometry.specs.Float.{one64}
 use Rattle.geometry.specs.Units.{unitsOf}
 use Rattle.mesh.specs.declared.element.Pair.{Pair}
 use Rattle.mesh.specs.declared.element.Tet.{Tet}
-use Rattle.mesh.specs.Sort.{sort, before, headed, ordered, elem, unique}
+use Rattle.mesh.specs.Sort.{sort, before, headed, ordered, unique}
 use Rattle.mesh.specs.Complex.{mem, sub, Nodup, Sub}
 use Rattle.mesh.specs.Moves.{Flippable32}
 use Rattle.mesh.specs.Element.{tet, verticesOf}
@@ -32,6 +32,7 @@ use Rattle.repair.proofs.Laws.Flip.Replace.{Held, elementsOf, replace-h
 use Rattle.repair.proofs.Laws.Flip.Owners.{without-elim, without-intro, star-owners}
 use Rattle.repair.proofs.Laws.Flip.Five.{flippable32}
 use Rattle.repair.proofs.Laws.Flip.Flipped.{flipped32}
+use Rattle.mesh.proofs.Laws.Numbers.{elem-is, leb-total, leb-anti}
 
 -- ---- the other vertices
 
@@ -55,20 +56,9 @@ besides-out σ (t ∷ ts) x m =
 
 -- ---- sorted, each once
 
-elem-mem : (x : ℕ) (l : List ℕ) → elem eqb x l ≡ mem x l
-unfolding elem
-elem-mem x [] = refl
-elem-mem x (y ∷ l) = ap (λ t. eqb x y || t) (elem-mem x l)
-
 pub set-mem : (x : ℕ) (l : List ℕ) → mem x (unique eqb (sort leb l)) ≡ mem x l
 set-mem x l =
-    sym (elem-mem x (unique eqb (sort leb l))) ∙ elem-unique eqb eqb-true x (sort leb l) ∙ elem-mem x (sort leb l) ∙ sort-mem x l
-
-leb-total : (a b : ℕ) → leb a b ≡ false → leb b a ≡ true
-leb-total a b h = let l = leb-false a b h in le-leb b a (omega arith)
-
-leb-anti : (a b : ℕ) → leb a b ≡ true → leb b a ≡ true → a ≡ b
-leb-anti a b h k = let l = leb-true a b h in let m = leb-true b a k in omega arith
+    sym (elem-is x (unique eqb (sort leb l))) ∙ elem-unique eqb eqb-true x (sort leb l) ∙ elem-is x (sort leb l) ∙ sort-mem x l
 
 pub set-rises : (l : List ℕ) → ordered (before leb) (unique eqb (sort leb l)) ≡ true
 set-rises l = unique-rising eqb eqb-true (λ a. eq-eqb a a refl) leb leb-anti (sort leb l) (ordered-sort leb leb-total l)

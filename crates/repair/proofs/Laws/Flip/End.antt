@@ -1,9 +1,9 @@
 -- The end of `flip`: where at most two elements have a triangle no key has three faces, so that `flip` never gives 16. Assumes nothing.
-use mathlib.Core.Path.{_≡_, refl, ap, subst}
+use mathlib.Core.Path.{_≡_, refl}
 use mathlib.Core.Logic.{inl, inr}
 use mathlib.Core.Bool.{Bool, true, false, cond}
 use mathlib.Core.List.{List, [], _∷_, map, List·Memᴰ, List·Memᴰ·head, List·Memᴰ·tail}
-use Prim.Native.Nat.{ℕ, suc, _≤_}
+use Prim.Native.Nat.{ℕ, _≤_}
 use native.Mathlib.Omega.{arith}
 use lib.Dec.{eqb}
 use lib.Ieee.{lt}
@@ -12,15 +12,14 @@ use Rattle.geometry.specs.Float.{zero64}
 use Rattle.mesh.specs.declared.element.Triple.{Triple}
 use Rattle.mesh.specs.declared.element.Tet.{Tet}
 use Rattle.mesh.specs.Sort.{sort}
-use Rattle.mesh.specs.Sets.{times}
 use Rattle.mesh.specs.Complex.{Proper}
 use Rattle.mesh.specs.Element.{verticesOf, cornersOf, keyOf, parityOf}
-use Rattle.mesh.specs.Boundary.{sameTriple, leTriple, allFaces, withKey, keyNumber, firstNumber, boundaryNumber, boundaryOf}
-use Rattle.mesh.proofs.Laws.Complex.Sets.{split, same}
+use Rattle.mesh.specs.Boundary.{leTriple, allFaces, withKey, keyNumber, firstNumber, boundaryNumber, boundaryOf}
+use Rattle.mesh.proofs.Laws.Complex.Sets.{split}
 use Rattle.mesh.proofs.Laws.Link.Members.{every-elim}
 use Rattle.mesh.proofs.Laws.Link.Simplices.{rising, rising-nodup}
-use Rattle.mesh.proofs.Laws.Link.Keys.{Fours, proper-fours, triple-decides, times-star}
-use Rattle.mesh.proofs.Laws.Link.Closed.{AtMostTwo}
+use Rattle.mesh.proofs.Laws.Link.Keys.{Fours, proper-fours, times-star}
+use Rattle.mesh.proofs.Laws.Link.Closed.{AtMostTwo, with-key}
 use Rattle.mesh.proofs.Laws.Boundary.Same.{sort-every}
 use Rattle.repair.specs.Mesh.{Mesh, made, refused, measure, determinantOf}
 use Rattle.repair.specs.Flip.{live, flips, sameTriples, sortedKeys, endNumber, flip}
@@ -50,16 +49,6 @@ few-keys fs (j ∷ ks) l h =
       | inl z ↦ few-keys fs ks (λ k m. l k (List·Memᴰ·tail m)) (rw z at h)
       | inr z ↦ few-faces (withKey j fs) (l j (List·Memᴰ·head refl)) (rw z at h)
     ]
-
--- a key has as many faces as it stands among the keys
-with-key : (k : Triple) (fs : List Triple) → length (withKey k fs) ≡ times sameTriple k (map keyOf fs)
-with-key k [] = refl
-with-key k (f ∷ fs) =
-    let ih = with-key k fs in
-    let e : sameTriple (keyOf f) k ≡ sameTriple k (keyOf f) = same
-    (λ h. subst (λ g. sameTriple g (keyOf f) ≡ true) (triple-decides .equal (keyOf f) k h) (triple-decides .self (keyOf f)))
-    (λ h. subst (λ g. sameTriple g k ≡ true) (triple-decides .equal k (keyOf f) h) (triple-decides .self k)) in
-    rw e (elim (split (sameTriple k (keyOf f))) [ inl h ↦ rw h (ap suc ih) | inr h ↦ rw h ih ])
 
 -- at most two elements a triangle: no 16
 pub never-16 : (ts : List Tet) → Fours ts → AtMostTwo (map verticesOf ts) → boundaryNumber ts ≡ 16 → ⊥

@@ -30,6 +30,7 @@ use Rattle.repair.specs.Layout.{Same}
 use Rattle.repair.specs.FlipEnd.{keyedOutcome, SurfaceEnded}
 use Rattle.repair.proofs.Laws.Finish.Surface.{words-flat}
 use Rattle.repair.proofs.Laws.Finish.Ended.{good-answer, good-words, bad-answer, refused-answer}
+use Rattle.mesh.proofs.Laws.Boundary.Called.{filled-is}
 
 -- ---- by the number of the boundary
 
@@ -47,11 +48,6 @@ keyed-answer true c = refl
 keyed-answer false c = refl
 
 -- ---- `boundary_in` on a part
-
-filled-is : (k : ℕ) (s : List ℕ) → areaFits k (length s) ≡ true
-    → boundaryIn k s ≡ record { answer = answerOf (tets k s); area = take (4 * k) s ++ (surfaceWords (tets k s) ++ zeroWords (length s - (4 * k + length (surfaceWords (tets k s))))) }
-unfolding boundaryIn
-filled-is k s h = rw h refl
 
 module _ (k g : ℕ) (s₀ f : List ℕ) (fit : areaFits k (36 * k) ≡ true) (room : 36 * k + 18 * g ≤ length s₀) (o : Outcome) (p : List ℕ)
     (found : _≡_ {A = Filled} (record { answer = o; area = p }) (boundaryIn k (midOf 0 (36 * k - 0) s₀))) where

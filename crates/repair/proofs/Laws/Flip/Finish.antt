@@ -16,7 +16,6 @@ use Rattle.mesh.specs.Element.{tets}
 use Rattle.mesh.specs.Boundary.{boundaryNumber, boundaryOf}
 use Rattle.mesh.specs.Manifold.{triples}
 use Rattle.mesh.proofs.Laws.Complex.Sets.{split}
-use Rattle.mesh.proofs.Laws.Star.Scan.{length-tets}
 use Rattle.repair.specs.declared.answer.Answer.{Answer}
 use Rattle.repair.specs.declared.answer.Answer.the-variants as answers
 use Rattle.repair.specs.Flip.{sortedKeys, sameTriples, endNumber}
@@ -27,6 +26,7 @@ use Rattle.repair.proofs.Laws.Finish.Whole.{refused-is, taken-zero}
 use Rattle.repair.proofs.Laws.Flip.Keys.{length-triples}
 use Rattle.repair.proofs.Laws.Flip.Surface.{same-many, sorted-many}
 use Rattle.repair.proofs.Laws.Flip.Ended.{good-end, bad-end}
+use Rattle.mesh.proofs.Laws.Intake.Reads.{length-tets}
 
 -- a surface with the keys of those given has as many triples
 same-triples : (fs : List Triple) (ts : List Tet) → endNumber fs ts ≡ 0 → length (boundaryOf ts) ≡ length fs

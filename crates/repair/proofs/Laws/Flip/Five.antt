@@ -14,10 +14,10 @@ use Rattle.mesh.specs.Moves.{Flippable23, Flippable32}
 use Rattle.mesh.specs.Tests.{every}
 use Rattle.mesh.proofs.Laws.Complex.Sets.{split, clash, nope, mem-nil, out-head, out-tail, Sub-cons, sub-elim, within-mono}
 use Rattle.mesh.proofs.Laws.Complex.Sums.{bit}
-use Rattle.mesh.proofs.Laws.Complex.Flip.{eq}
 use Rattle.mesh.proofs.Laws.Link.Closed.{AtMostTwo}
 use Rattle.repair.proofs.Laws.Flip.Triangles.{Alike, sub-alike, others, star-cons, star-append, both, star-split, both-some, star-none, meet, lose, narrow, sum-three, sum-one, side}
 use Rattle.repair.proofs.Laws.Flip.Owners.{third}
+use Rattle.mesh.proofs.Laws.Numbers.{eqb-same}
 
 module _ (a b u v w : ℕ) (five : Nodup (a ∷ b ∷ u ∷ v ∷ w ∷ [])) where
   a-b : eqb a b ≡ false
@@ -80,7 +80,7 @@ module _ (a b u v w : ℕ) (five : Nodup (a ∷ b ∷ u ∷ v ∷ w ∷ [])) whe
   w-v : eqb w v ≡ false
   w-v = ne-eqb w v (λ q. out-head v w [] (five .1 .1 .1 .0) (sym q))
 
-  ruleset known = (eq, a-b, b-a, a-u, u-a, a-v, v-a, a-w, w-a, b-u, u-b, b-v, v-b, b-w, w-b, u-v, v-u, u-w, w-u, v-w, w-v)
+  ruleset known = (eqb-same, a-b, b-a, a-u, u-a, a-v, v-a, a-w, w-a, b-u, u-b, b-v, v-b, b-w, w-b, u-v, v-u, u-w, w-u, v-w, w-v)
 
   -- two to three
   pub thin23 : (es : List (List ℕ)) → Flippable23 a b u v w es → AtMostTwo es → (x y z : List ℕ) → Alike x (a ∷ b ∷ u ∷ v ∷ []) → Alike y (a ∷ b ∷ v ∷ w ∷ []) → Alike z (a ∷ b ∷ w ∷ u ∷ [])

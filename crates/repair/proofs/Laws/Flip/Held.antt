@@ -18,10 +18,9 @@ use Rattle.mesh.specs.Group.{numbers}
 use Rattle.mesh.specs.About as About
 use Rattle.mesh.proofs.Laws.Parts.{side}
 use Rattle.mesh.proofs.Laws.Complex.Sets.{split, and-snd, clash, keep-mem}
-use Rattle.mesh.proofs.Laws.Intake.Reads.{tets-at}
+use Rattle.mesh.proofs.Laws.Intake.Reads.{tets-at, length-tets}
 use Rattle.mesh.proofs.Laws.Link.Members.{kept-elim, every-elim}
 use Rattle.mesh.proofs.Laws.Manifold.Corners.{every-getD}
-use Rattle.mesh.proofs.Laws.Star.Scan.{length-tets}
 use Rattle.repair.specs.Flip.{State, slotHas, live, numbersWith}
 use Rattle.repair.specs.Layout.{slotOk}
 use Rattle.repair.specs.Replace.{slotAt}

@@ -22,7 +22,7 @@ use Rattle.mesh.proofs.Laws.Parts.{side}
 use Rattle.mesh.proofs.Laws.Areas.{length-sorted}
 use Rattle.mesh.proofs.Laws.Boundary.Order.{sort-corners}
 use Rattle.mesh.proofs.Laws.Sort.{length-sort}
-use Rattle.mesh.proofs.Laws.Manifold.Whole.{triples-flat}
+use Rattle.mesh.proofs.Laws.Manifold.Whole.{triples-flat, triples-take}
 use Rattle.repair.specs.Flip.{sameTriples}
 use Rattle.repair.specs.Layout.{Same}
 use Rattle.repair.specs.FlipLayout.{tripleAt, withTriple}
@@ -165,14 +165,6 @@ module _ {w : List ℕ} {p q c i j left : ℕ} (k : Comparing w p q c i j left) 
 
 -- ---- put in order
 
--- triples are the same where their words are
-pub triples-words : (c : ℕ) (s t : List ℕ) → ((j : ℕ) → j < 3 * c → wordAt s j ≡ wordAt t j) → triples c s ≡ triples c t
-unfolding triples
-triples-words zero s t h = refl
-triples-words (suc c) s t h =
-    ap₂ (λ (f : Triple) (l : List Triple). f ∷ l) (rw (h 0 (omega arith), h 1 (omega arith), h 2 (omega arith)))
-    (triples-words c (drop 3 s) (drop 3 t) (λ j g. getD-drop 3 s j 0 ∙ h (3 + j) (omega arith) ∙ sym (getD-drop 3 t j 0)))
-
 pub length-triples : (c : ℕ) (s : List ℕ) → length (triples c s) ≡ c
 unfolding triples
 length-triples zero s = refl
@@ -195,7 +187,7 @@ module _ (p c : ℕ) (w : List ℕ) (h : p + 6 * c ≤ length w) where
   part-long = mid-len p (p + 6 * c) w h ∙ (let e : p + 6 * c - p ≡ 6 * c = omega arith in e)
 
   part-triples : triples c part ≡ triples c (drop p w)
-  part-triples = triples-words c part (drop p w) (λ j g. getD-take (p + 6 * c - p) (drop p w) j 0 (omega arith))
+  part-triples = triples-take c part (drop p w) (λ j g. getD-take (p + 6 * c - p) (drop p w) j 0 (omega arith))
 
   -- the part in order
   sorted-part : triples c (sortedArea c 3 part ++ drop (p + 6 * c - p) (drop p w)) ≡ sort leTriple (triples c (drop p w))

@@ -17,8 +17,8 @@ use Rattle.mesh.specs.List.{gone}
 use Rattle.mesh.specs.Star.{Laid}
 use Rattle.mesh.specs.About as About
 use Rattle.mesh.proofs.Laws.Star.Calls.{answered-complete, answered-elements}
-use Rattle.mesh.proofs.Laws.Star.Scan.{length-tets}
 use Rattle.mesh.proofs.Laws.Boundary.Same.{length-map}
+use Rattle.mesh.proofs.Laws.Intake.Reads.{length-tets}
 use Rattle.repair.specs.Flip.{State, live}
 use Rattle.repair.specs.Layout.{Same, slotOk}
 use Rattle.repair.specs.FlipLayout.{Room, Stands, Kept, slotOf, wordsIn, tripleAt}

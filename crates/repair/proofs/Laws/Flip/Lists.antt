@@ -27,11 +27,13 @@ use Rattle.mesh.proofs.Laws.Boundary.Same.{length-keep, length-map}
 use Rattle.mesh.proofs.Laws.List.Push.{shape-append}
 use Rattle.mesh.proofs.Laws.Shared.Runs.{runs-shared}
 use Rattle.mesh.proofs.Laws.Shared.Scan.{shape-runs}
-use Rattle.mesh.proofs.Laws.Star.Scan.{length-tets}
 use Rattle.repair.specs.Layout.{Same}
 use Rattle.repair.specs.FlipLayout.{Room, facesAt, edgesAt}
 use Rattle.repair.specs.FlipBegin.{FacesLaid, EdgesLaid}
 use Rattle.repair.proofs.Laws.Flip.Part.{part-long, part-elements, part-same, part-rows}
+use Rattle.mesh.proofs.Laws.Intake.Reads.{length-tets}
+use Rattle.mesh.proofs.Laws.Boundary.Meaning.{length-faces}
+use Rattle.mesh.proofs.Laws.List.Rows.{length-vertices}
 
 -- ---- shared faces
 
@@ -41,11 +43,6 @@ module _ (ps : List Point) (ts : List Tet) where
 
   shared-shape : Shape 5 (length shared) shared
   shared-shape = subst (λ (l : List (List ℕ)). Shape 5 (length l) l) (runs-shared ps ts) (shape-runs (runs (sameFirst 3) (sort leRow (ownedFrom ps 0 ts))))
-
-  faces-many : (us : List Tet) → length (allFaces us) ≡ 4 * length us
-  unfolding allFaces
-  faces-many [] = refl
-  faces-many (t ∷ us) = let h = faces-many us in omega arith
 
   -- no more than four an element
   shared-few : length shared ≤ 4 * length ts
@@ -59,7 +56,7 @@ module _ (ps : List Point) (ts : List Tet) where
       let c = length-unique sameTriple (sort leTriple keys) in
       let d = length-sort leTriple keys in
       let e = length-map keyOf (allFaces bad) in
-      let f = faces-many bad in
+      let f = length-faces bad in
       let g = length-keep (badIn ps) ts in
       omega arith
 
@@ -138,11 +135,6 @@ module _ (ps : List Point) (ts : List Tet) where
   edges-many [] = refl
   edges-many (t ∷ us) = let h = edges-many us in omega arith
 
-  four : (us : List Tet) → length (flat (map verticesOf us)) ≡ 4 * length us
-  unfolding flat
-  four [] = refl
-  four (t ∷ us) = let h = four us in omega arith
-
   bad-few : length (badEdges ps ts) ≤ 6 * length bad
   unfolding setOf
   bad-few =
@@ -206,7 +198,7 @@ module _ (x : Index) (n : ℕ) (ps : List Point) (els w w₁ p v : List ℕ) (r 
       let a = s₂-long in
       let b = length-take-le (4 * n) s₂ (omega arith) in
       let c = length-append (take (4 * n) s₂) es in
-      let d = four ps us (bad ps us) in
+      let d = length-vertices (bad ps us) in
       let e = elements₂ in
       omega arith
 
@@ -218,7 +210,7 @@ module _ (x : Index) (n : ℕ) (ps : List Point) (els w w₁ p v : List ℕ) (r 
       let d = length-replicate {A = ℕ} (length s₂ - (4 * n + length es + length (flat (badEdges ps us)))) 0 in
       let e = length-flat (bad-shape ps us) in
       let f = front₂ in let g = few-rows in let h = rows₂ in let i = s₂-long in let j = few-bad in
-      let k = four ps us (bad ps us) in let l = elements₂ in
+      let k = length-vertices (bad ps us) in let l = elements₂ in
       omega arith
 
   pub edges-laid : EdgesLaid x n ps (tets n els) r w v

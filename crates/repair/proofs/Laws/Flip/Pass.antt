@@ -35,6 +35,7 @@ use Rattle.repair.proofs.Laws.Flip.Replace.{Held, Chain}
 use Rattle.repair.proofs.Laws.Flip.Listed.{faces-rise, ends-differ}
 use Rattle.repair.proofs.Laws.Flip.Face.{face-held, face-aged}
 use Rattle.repair.proofs.Laws.Flip.Edge.{edge-held}
+use Rattle.repair.proofs.Laws.Results.{mesh-of, count-of}
 
 -- ---- all turns
 
@@ -130,12 +131,6 @@ flip-keeps m near P whole upright count m′ h = go (eqb (endNumber (m .surface)
 
     held : Held μ (length (m .points)) F (map verticesOf (m .elements)) (flips μ (m .elements))
     held = start-held m near P whole upright
-
-    mesh-of : {n : ℕ} {x : Mesh} → made n x ≡ made count m′ → x ≡ m′
-    mesh-of z = cc
-
-    count-of : {n : ℕ} {x : Mesh} → made n x ≡ made count m′ → n ≡ count
-    count-of z = cc
 
     never : (n : ℕ) → refused n ≡ made count m′ → ⊥
     never n z = let y : _≡_ {A = ℕ} 0 1 = cc in omega arith

@@ -1,12 +1,11 @@
 -- A listed face with two owners at the start, both still live, has these two and no other, since at most two elements have a triangle.
 -- Assumes nothing.
-use mathlib.Core.Path.{_≡_, refl, sym, ap, ap₂, subst, _∙_}
+use mathlib.Core.Path.{_≡_, refl, sym, ap, subst, _∙_}
 use mathlib.Core.Logic.{_⊎_, inl, inr, ⊎-elim}
 use mathlib.Core.Bool.{Bool, true}
 use mathlib.Core.List.{List, [], _∷_, _++_, map, List·Memᴰ, List·Memᴰ·head, List·Memᴰ·tail, List·Memᴰ·not-nil, List·Memᴰ·cases-cons}
 use mathlib.Core.Option.{Option, none, some}
 use Prim.Native.Nat.{ℕ, zero, suc, _+_, _-_, _≤_, _<_}
-use native.Mathlib.Nat.{zero-add}
 use native.Mathlib.Omega.{arith}
 use lib.ListN.{length, getD, length-append}
 use Rattle.mesh.specs.declared.element.Tet.{Tet}
@@ -22,6 +21,7 @@ use Rattle.repair.specs.Flip.{hasAll, slotHas, live, numbersWith, elemen
 use Rattle.repair.proofs.Laws.Flip.Slots.{none-some, Aged, at-live, length-with}
 use Rattle.repair.proofs.Laws.Flip.Replace.{elementsOf}
 use Rattle.repair.proofs.Laws.Flip.Owners.{length-without, star-owners, element-of}
+use Rattle.mesh.proofs.Laws.Euler.Areas.{numbers-split}
 
 -- ---- lists
 
@@ -30,14 +30,6 @@ numbers-under : (k n i : ℕ) → List·Memᴰ i (numbers k n) → i < k + n
 unfolding numbers
 numbers-under k zero i m = absurd (List·Memᴰ·not-nil m)
 numbers-under k (suc n) i m = elim (List·Memᴰ·cases-cons m) [ inl e ↦ omega arith | inr q ↦ let r = numbers-under (k + 1) n i q in omega arith ]
-
-numbers-append : (k n m : ℕ) → numbers k (n + m) ≡ numbers k n ++ numbers (k + n) m
-unfolding numbers
-numbers-append k zero m = let e : k ≡ k + 0 = omega arith in ap₂ numbers e (zero-add m)
-numbers-append k (suc n) m =
-    let e : suc n + m ≡ suc (n + m) = omega arith in
-    let f : k + 1 + n ≡ k + suc n = omega arith in
-    ap (numbers k) e ∙ ap (λ l. k ∷ l) (numbers-append (k + 1) n m ∙ ap (λ j. numbers (k + 1) n ++ numbers j m) f)
 
 module _ {A : Type 0} (p q : A → Bool) (r : List A) where
   keep-under : (l : List A) → ((x : A) → List·Memᴰ x l → p x ≡ true → q x ≡ true) → length (keep p l) ≤ length (keep q (l ++ r))
@@ -151,7 +143,7 @@ module _ (n : ℕ) (u v w : ℕ) (d : Nodup (u ∷ v ∷ w ∷ [])) (ts : List T
       split-numbers =
           let l = aged .long in
           let e : length ss ≡ length ts + (length ss - length ts) = omega arith in
-          ap (numbers 0) e ∙ numbers-append 0 (length ts) (length ss - length ts)
+          ap (numbers 0) e ∙ numbers-split 0 (length ts) (length ss - length ts)
 
       few : length (keep q (numbers 0 (length ss))) ≤ length (keep p (numbers 0 (length ts)))
       few =

@@ -22,7 +22,8 @@ use Rattle.mesh.proofs.Laws.Boundary.Same.{length-map}
 use Rattle.repair.specs.Flip.{sortedKeys, sameTriples}
 use Rattle.repair.specs.Layout.{Same}
 use Rattle.repair.proofs.Laws.Same.{same-trans, same-wider}
-use Rattle.repair.proofs.Laws.Flip.Keys.{triples-words, length-triples}
+use Rattle.repair.proofs.Laws.Flip.Keys.{length-triples}
+use Rattle.mesh.proofs.Laws.Manifold.Whole.{triples-take}
 
 -- ---- lists that are the same have one length
 
@@ -85,11 +86,11 @@ module _ (k c g p r q : ℕ) (s₀ f : List ℕ) (long : 36 * k + 18 * g ≤ len
 
   -- what was copied
   given : triples g (drop r s₂) ≡ triples g f
-  given = triples-words g (drop r s₂) f (λ j h. ap (λ (u : List ℕ). wordAt (drop r u) j) e₂ ∙ copied-words f s₁ r (3 * g) fits room j h)
+  given = triples-take g (drop r s₂) f (λ j h. ap (λ (u : List ℕ). wordAt (drop r u) j) e₂ ∙ copied-words f s₁ r (3 * g) fits room j h)
 
   -- the new keys are still there
   still : triples g (drop p s₃) ≡ triples g (drop p s₁)
-  still = triples-words g (drop p s₃) (drop p s₁) (λ j h.
+  still = triples-take g (drop p s₃) (drop p s₁) (λ j h.
       getD-drop p s₃ j 0 ∙ b .1 .before (p + j) (omega arith) ∙ copy .before (p + j) (omega arith) ∙ sym (getD-drop p s₁ j 0))
 
   pub surface-same : c ≡ g → (t : Bool) → t ≡ sameTriples (triples g (drop p s₃)) (triples g (drop q s₃)) → t ≡ sameTriples (sortedKeys (triples c (drop (4 * k) s₀))) (sortedKeys (triples g f))

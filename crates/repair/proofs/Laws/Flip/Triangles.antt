@@ -14,9 +14,9 @@ use Rattle.mesh.specs.Tests.{every}
 use Rattle.mesh.proofs.Laws.Complex.Sets.{split, clash, out-head, out-tail, apart, sub-elim, sub-intro, within-elim, short}
 use Rattle.mesh.proofs.Laws.Complex.Lists.{keep-pos}
 use Rattle.mesh.proofs.Laws.Complex.Sums.{bit}
-use Rattle.mesh.proofs.Laws.Complex.Flip.{eq}
 use Rattle.mesh.proofs.Laws.Link.Simplices.{every-mem}
 use Rattle.mesh.proofs.Laws.Link.Closed.{AtMostTwo}
+use Rattle.mesh.proofs.Laws.Numbers.{eqb-same}
 
 -- the same vertices
 abbrev pub Alike : List ℕ → List ℕ → Type 0
@@ -150,7 +150,7 @@ module _ (c i j k : ℕ) (four : Nodup (c ∷ i ∷ j ∷ k ∷ [])) where
   k-j : eqb k j ≡ false
   k-j = ne-eqb k j (λ q. out-head j k [] (four .1 .1 .0) (sym q))
 
-  ruleset known₄ = (eq, c-i, i-c, c-j, j-c, c-k, k-c, i-j, j-i, i-k, k-i, j-k, k-j)
+  ruleset known₄ = (eqb-same, c-i, i-c, c-j, j-c, c-k, k-c, i-j, j-i, i-k, k-i, j-k, k-j)
 
   module _ (τ : List ℕ) (l : length τ ≡ 3) (d : Nodup τ) where
     not-ij-jk : Sub τ (c ∷ i ∷ j ∷ []) → Sub τ (c ∷ j ∷ k ∷ []) → ⊥

@@ -30,7 +30,6 @@ use Rattle.repair.specs.FlipLayout.{Stands, Kept, EdgesBound, tripleAt}
 use Rattle.repair.specs.FlipTries.{Holds, Went, Old, placesOf, EdgeListed, edgeRow}
 use Rattle.repair.specs.FlipEdge.{trioIn, threeOf, othersOf, ListedAt}
 use Rattle.repair.proofs.Laws.Same.{same-trans}
-use Rattle.repair.proofs.Laws.Improve.Intake.{under-sound}
 use Rattle.repair.proofs.Laws.Site.Near.{kept-rising}
 use Rattle.repair.proofs.Laws.Flip.Slots.{elements-with}
 use Rattle.repair.proofs.Laws.Flip.Edge.{besides-out, set-mem, set-rises, three-rise}
@@ -39,6 +38,7 @@ use Rattle.repair.proofs.Laws.Flip.Bound.{edges-room, edges-turn}
 use Rattle.repair.proofs.Laws.Flip.Numbered.{well-made}
 use Rattle.repair.proofs.Laws.Flip.Others.{besides-elim, words-three}
 use Rattle.repair.proofs.Laws.Flip.Held.{number-held, live-well}
+use Rattle.mesh.proofs.Laws.Complex.Tests.{under-sound}
 
 module _ {x : Index} {n : ℕ} {t : Tried} {w : List ℕ} {s : State} (μ : Measure) (e : Pair) (h : Holds x n t w s) (l : EdgeListed (x .vertices) e) (b : EdgesBound n (s .slots)) where
   -- the numbers of the edge's elements

@@ -27,7 +27,6 @@ use Rattle.mesh.specs.Intake.{wellNumbered}
 use Rattle.mesh.specs.Shared.{sharedRow, sharedFaces}
 use Rattle.mesh.specs.About as about
 use Rattle.mesh.proofs.Laws.Rows.{rows-same}
-use Rattle.mesh.proofs.Laws.Star.Scan.{length-tets}
 use Rattle.mesh.proofs.Laws.About.Calls.{Copied, live-count, live-copied}
 use Rattle.repair.specs.declared.tried.Tried.{Tried}
 use Rattle.repair.specs.declared.tried.Lists.{Lists}
@@ -42,6 +41,7 @@ use Rattle.repair.proofs.Laws.Flip.Bound.{faces-start, faces-edges}
 use Rattle.repair.proofs.Laws.Flip.Shared.{shared-tried}
 use Rattle.repair.proofs.Laws.Flip.Begun.{numbered-fours, numbered-live, faces-listed, edges-rows, edges-listed}
 use Rattle.repair.proofs.Laws.Flip.Fewer.{edges-fewer}
+use Rattle.mesh.proofs.Laws.Intake.Reads.{length-tets}
 
 module _ (z : Sizes) (points : List Float) (es ss w₀ : List ℕ) (fit : FlipFitting z es ss w₀) (x : Index) (many : x .vertices ≡ z .vertices) where
   -- how many elements, the elements, and the points

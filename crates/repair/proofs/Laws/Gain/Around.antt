@@ -10,7 +10,7 @@ use lib.Dec.{eqb, ltb}
 use lib.Ieee.{Float}
 use lib.ListN.{length, drop, length-map, List·getD-eq-default}
 use lib.Seq.{getD-drop, drop-drop}
-use borrow.Author.Tests.{eq-eqb, eqb-true, ltb-true}
+use borrow.Author.Tests.{eqb-true, ltb-true}
 use Rattle.geometry.specs.declared.bounds.Options.{Options}
 use Rattle.geometry.specs.declared.point.Point.{Point}
 use Rattle.mesh.specs.declared.element.Pair.{Pair}
@@ -31,7 +31,6 @@ use Rattle.mesh.proofs.Laws.Link.Simplices.{every-mem}
 use Rattle.mesh.proofs.Laws.List.Bad.{keep-few}
 use Rattle.mesh.proofs.Laws.Star.Chains.{few-below}
 use Rattle.mesh.proofs.Laws.Star.Numbers.{any-out}
-use Rattle.mesh.proofs.Laws.Star.Scan.{length-tets}
 use Rattle.mesh.proofs.Laws.Star.Calls.{Answered}
 use Rattle.mesh.proofs.Laws.About.Members.{entries-few}
 use Rattle.mesh.proofs.Laws.About.Answer.{about-count, about-answered}
@@ -40,7 +39,9 @@ use Rattle.repair.specs.Mesh.{Mesh, measure, any, has}
 use Rattle.repair.specs.Improve.{State, about, collapsed, gains}
 use Rattle.repair.specs.Layout.{Room, Stands, Pairs, Same, pairsAt, pairsOf, pairsIn, slotsIn, liveIn, slotOk}
 use Rattle.repair.proofs.Laws.Layout.{room-laid}
-use Rattle.repair.proofs.Laws.Replace.Pairs.{length-pairs, pairs-few}
+use Rattle.repair.proofs.Laws.Replace.Pairs.{pairs-few, pair-here}
+use Rattle.mesh.proofs.Laws.Intake.Reads.{length-tets}
+use Rattle.repair.proofs.Laws.Gain.Judging.{pairs-same}
 
 -- ---- the vertices of pairs
 
@@ -56,15 +57,6 @@ members-ends (suc k) p w =
     let e : 2 * suc k ≡ suc (suc (2 * k)) = omega arith in
     let f : p + 1 + 1 ≡ p + 2 = omega arith in
     rw (e, f, members-ends k (p + 2) w, getD-drop p w 0 0, add-zero p, getD-drop p w 1 0, drop-drop 2 p w) refl
-
--- pairs are the same where their words are
-pairs-same : (k : ℕ) (s t : List ℕ) → ((j : ℕ) → j < 2 * k → wordAt t j ≡ wordAt s j) → pairsOf k t ≡ pairsOf k s
-unfolding pairsOf
-pairs-same zero s t h = refl
-pairs-same (suc k) s t h =
-    ap₂ (λ (e : Pair) (l : List Pair). e ∷ l)
-    (rw (h 0 (omega arith), h 1 (omega arith)) refl)
-    (pairs-same k (drop 2 s) (drop 2 t) (λ j g. getD-drop 2 t j 0 ∙ h (2 + j) (omega arith) ∙ sym (getD-drop 2 s j 0)))
 
 entries-ends : (x : Index) (s : List ℕ) (es : List Pair) → entriesOf x s (ends es) ≡ entriesOf x s (map (λ e. e .a) es) + entriesOf x s (map (λ e. e .b) es)
 unfolding entriesOf
@@ -88,9 +80,6 @@ module _ (nv : ℕ) where
   abbrev Below : List Pair → Type 0
   Below es = (e : Pair) → among samePair e es ≡ true → (e .a < nv) × (e .b < nv)
 
-  here : (e : Pair) (es : List Pair) → among samePair e (e ∷ es) ≡ true
-  here e es = rw (eq-eqb (e .a) (e .a) refl, eq-eqb (e .b) (e .b) refl) refl
-
   rest : (e : Pair) (es : List Pair) → Below (e ∷ es) → Below es
   rest e es h f m = h f (or-right (samePair f e) m)
 
@@ -98,9 +87,9 @@ module _ (nv : ℕ) where
   ends-below [] h v m = absurd (mem-nil v m)
   ends-below (e ∷ es) h v m =
       elim (mem-cases v (e .a) (e .b ∷ ends es) m) [
-        | inl q ↦ subst (λ (y : ℕ). y < nv) (sym q) (h e (here e es) .0)
+        | inl q ↦ subst (λ (y : ℕ). y < nv) (sym q) (h e (pair-here e es) .0)
         | inr n ↦ elim (mem-cases v (e .b) (ends es) n) [
-          | inl q ↦ subst (λ (y : ℕ). y < nv) (sym q) (h e (here e es) .1)
+          | inl q ↦ subst (λ (y : ℕ). y < nv) (sym q) (h e (pair-here e es) .1)
           | inr l ↦ ends-below es (rest e es h) v l
         ]
       ]
@@ -109,7 +98,7 @@ module _ (nv : ℕ) where
   firsts-below [] h v m = absurd (mem-nil v m)
   firsts-below (e ∷ es) h v m =
       elim (mem-cases v (e .a) (map (λ e. e .a) es) m) [
-        | inl q ↦ subst (λ (y : ℕ). y < nv) (sym q) (h e (here e es) .0)
+        | inl q ↦ subst (λ (y : ℕ). y < nv) (sym q) (h e (pair-here e es) .0)
         | inr n ↦ firsts-below es (rest e es h) v n
       ]
 

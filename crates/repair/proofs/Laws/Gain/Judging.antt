@@ -1,5 +1,5 @@
 -- Images judged one after the other up to the first that is not allowed, and what the collapse gains by them. Assumes nothing.
-use mathlib.Core.Path.{_≡_, refl, sym, ap, subst, _∙_}
+use mathlib.Core.Path.{_≡_, refl, sym, ap, ap₂, subst, _∙_}
 use mathlib.Core.Bool.{Bool, true, false, not, cond}
 use mathlib.Core.List.{List, [], _∷_, map}
 use Prim.Native.Nat.{ℕ, zero, suc, _+_, _-_, _*_, _≤_, _<_}
@@ -33,6 +33,14 @@ use Rattle.repair.proofs.Laws.Gain.Tallies.{elementAt, tets-next, tets-
 pub record Seeking (w : List ℕ) (p k v q left : ℕ) : Type 0 where
   pub bound : q + 2 * left ≤ length w
   pub is : image (pairsOf left (drop q w)) v ≡ image (pairsOf k (drop p w)) v
+
+-- the same pairs where their words are the same
+pub pairs-same : (k : ℕ) (s t : List ℕ) → ((j : ℕ) → j < 2 * k → wordAt t j ≡ wordAt s j) → pairsOf k t ≡ pairsOf k s
+unfolding pairsOf
+pairs-same zero s t h = refl
+pairs-same (suc k) s t h =
+    ap₂ (λ (e : Pair) (l : List Pair). e ∷ l) (ap₂ pair (h 0 (omega arith)) (h 1 (omega arith)))
+    (pairs-same k (drop 2 s) (drop 2 t) (λ j g. getD-drop 2 t j 0 ∙ h (2 + j) (omega arith) ∙ sym (getD-drop 2 s j 0)))
 
 pub pairs-next : (k p : ℕ) (w : List ℕ) → 0 < k → pairsOf k (drop p w) ≡ pair (wordAt w p) (wordAt w (p + 1)) ∷ pairsOf (k - 1) (drop (p + 2) w)
 unfolding pairsOf

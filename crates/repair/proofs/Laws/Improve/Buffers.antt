@@ -3,7 +3,7 @@
 use mathlib.Core.Path.{_≡_, refl, sym, ap, subst, subst₂, _∙_}
 use mathlib.Core.Bool.{true}
 use mathlib.Core.List.{List, [], _∷_, _++_, map, List·Memᴰ}
-use Prim.Native.Nat.{ℕ, zero, suc}
+use Prim.Native.Nat.{ℕ}
 use lib.Ieee.{Float, lt}
 use lib.ListN.{length, take, drop}
 use Rattle.geometry.specs.declared.point.Point.{Point}
@@ -22,13 +22,9 @@ use Rattle.repair.specs.Wholeness.{OneOrTwo, Exact, Whole}
 use Rattle.repair.proofs.Laws.Improve.Scores.{Floor}
 use Rattle.repair.proofs.Laws.Improve.Keeps.{Sound, Keeps, floorUnits}
 use Rattle.repair.proofs.Laws.Improve.Intake.{intake-passed, passed-proper, passed-upright}
+use Rattle.mesh.proofs.Laws.Intake.Reads.{length-points}
 
 -- ---- put and read again
-
-pub length-points : (n : ℕ) (s : List Float) → length (pointsOf n s) ≡ n
-unfolding pointsOf
-length-points zero s = refl
-length-points (suc n) s = ap suc (length-points n (drop 3 s))
 
 pub points-back : (ps : List Point) (rest : List Float) → pointsOf (length ps) (floatsOf ps ++ rest) ≡ ps
 unfolding pointsOf floatsOf

@@ -2,7 +2,7 @@
 -- element and passes `link_ok` makes a step that keeps the alternating count. Assumes nothing.
 use mathlib.Core.Path.{_≡_, refl, sym, ap, fun-ext, _∙_}
 use mathlib.Core.Logic.{_≢_, inl, inr}
-use mathlib.Core.Bool.{Bool, true, false, not, cond, _&&_, true≢false}
+use mathlib.Core.Bool.{Bool, true, false, not, cond, _&&_, true≢false, and-true}
 use mathlib.Core.List.{List, [], _∷_, map, List·Memᴰ·head, List·Memᴰ·tail}
 use Prim.Native.Nat.{ℕ}
 use borrow.Author.Tests.{eqb-true, eqb-false, eq-eqb, ne-eqb}
@@ -15,8 +15,9 @@ use Rattle.mesh.specs.Element.{pair, verticesOf}
 use Rattle.mesh.specs.Feature.{linkOk}
 use Rattle.mesh.proofs.Laws.Complex.Sets.{split, nope, clash, same, or-cases, or-left, or-right, out-head, out-tail}
 use Rattle.mesh.proofs.Laws.Link.Keys.{Fours, proper-fours}
-use Rattle.mesh.proofs.Laws.Link.Labels.{onto-cases, onto-member, onto-other, onto-a}
+use Rattle.mesh.proofs.Laws.Link.Labels.{onto-member, onto-other, onto-a}
 use Rattle.mesh.proofs.Laws.Link.Together.{linkOk-collapsible}
+use Rattle.mesh.proofs.Laws.Complex.Collapse.{onto-cases}
 use Rattle.repair.specs.Mesh.{any, has}
 use Rattle.repair.specs.Improve.{image, imageOf, collapsed}
 
@@ -46,10 +47,6 @@ onto-into a b e o =
 nodup-true : (e : List ℕ) → Nodup e → nodup e ≡ true
 nodup-true [] d = refl
 nodup-true (x ∷ e) d = rw (d .0, nodup-true e (d .1)) refl
-
-and-true : (t : Bool) → (t && true) ≡ t
-and-true true = refl
-and-true false = refl
 
 twice : (t : Bool) → (not t && not (t && false)) ≡ not (t && true)
 twice true = refl

@@ -7,7 +7,7 @@ use mathlib.Core.List.{List, [], _∷_, _++_, map, List·Memᴰ, List·Memᴰ·n
 use Prim.Native.Nat.{ℕ, zero, suc, _+_, _≤_, _<_}
 use native.Mathlib.Nat.{le-of-eq, lt-of-lt-of-le}
 use native.Mathlib.Omega.{arith}
-use borrow.Author.Tests.{eqb-true, eqb-false, ne-eqb, not-true}
+use borrow.Author.Tests.{eqb-true, ne-eqb, not-true}
 use lib.Dec.{eqb}
 use lib.ListN.{length, length-append, length-map}
 use Rattle.geometry.specs.declared.bounds.Options.{Options}
@@ -25,6 +25,8 @@ use Rattle.repair.proofs.Laws.Improve.Single.{Distinct, size, ranks-ref
 use Rattle.repair.proofs.Laws.Improve.Edges.{joins, listed-join}
 use Rattle.repair.proofs.Laws.Improve.Passes.{Tried, Joined, joined, joined-back, tryEdge-keeps, tryEdges-always, rounds-always}
 use Rattle.repair.proofs.Laws.Improve.Keeps.{Sound, last, last-kept, improve-made}
+use Rattle.mesh.proofs.Laws.Star.Chains.{mem-either}
+use Rattle.mesh.proofs.Laws.Manifold.Fill.{numbers-mem}
 
 -- ---- lists of vertices
 
@@ -39,27 +41,10 @@ unfolding numbers
 numbers-nodup k zero = tt
 numbers-nodup k (suc n) = (nope (λ h. let l : k + 1 ≤ k = numbers-from (k + 1) n k h in omega arith), numbers-nodup (k + 1) n)
 
-pub numbers-mem : (k n x : ℕ) → k ≤ x → x < k + n → mem x (numbers k n) ≡ true
-unfolding numbers
-numbers-mem k zero x l u = absurd (omega arith)
-numbers-mem k (suc n) x l u =
-    elim (split (eqb x k)) [
-      | inl h ↦ rw h refl
-      | inr h ↦ let ne = eqb-false x k h in mem-there x k (numbers (k + 1) n) (numbers-mem (k + 1) n x (omega arith) (omega arith))
-    ]
-
-pub append-cases : (x : ℕ) (xs ys : List ℕ) → mem x (xs ++ ys) ≡ true → (mem x xs ≡ true) ⊎ (mem x ys ≡ true)
-append-cases x [] ys h = inr h
-append-cases x (y ∷ xs) ys h =
-    elim (mem-cases x y (xs ++ ys) h) [
-      | inl e ↦ inl (rw e (mem-here y xs))
-      | inr r ↦ elim (append-cases x xs ys r) [ inl q ↦ inl (mem-there x y xs q) | inr q ↦ inr q ]
-    ]
-
 append-nodup : (xs ys : List ℕ) → Nodup xs → Nodup ys → ((x : ℕ) → mem x xs ≡ true → mem x ys ≡ false) → Nodup (xs ++ ys)
 append-nodup [] ys d e h = e
 append-nodup (x ∷ xs) ys d e h = (
-  nope (λ z. elim (append-cases x xs ys z) [ inl q ↦ clash q (d .0) | inr q ↦ clash q (h x (mem-here x xs)) ]),
+  nope (λ z. elim (mem-either x xs ys z) [ inl q ↦ clash q (d .0) | inr q ↦ clash q (h x (mem-here x xs)) ]),
   append-nodup xs ys (d .1) e (λ y q. h y (mem-there y x xs q)),
 )
 
@@ -88,7 +73,7 @@ module _ (o : Options) (m : Mesh) where
   firsts-mem [] ws x h = absurd (mem-nil x h)
   firsts-mem (v ∷ vs) ws x h =
       let k : mem x (firsts (partner o m v ws) ++ firsts (partners o m vs ws)) ≡ true = subst (λ l. mem x l ≡ true) (firsts-append (partner o m v ws) (partners o m vs ws)) h in
-      elim (append-cases x (firsts (partner o m v ws)) (firsts (partners o m vs ws)) k) [
+      elim (mem-either x (firsts (partner o m v ws)) (firsts (partners o m vs ws)) k) [
         | inl q ↦ elim (partner-firsts v ws) [
           | inl e ↦ absurd (mem-nil x (subst (λ l. mem x l ≡ true) e q))
           | inr e ↦ elim (mem-cases x v [] (subst (λ l. mem x l ≡ true) e q)) [ inl r ↦ rw r (mem-here v vs) | inr r ↦ absurd (mem-nil x r) ]

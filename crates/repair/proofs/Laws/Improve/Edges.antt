@@ -12,13 +12,14 @@ use Rattle.geometry.specs.Float.{_*₆₄_}
 use Rattle.geometry.specs.Literals.{threeQuarters}
 use Rattle.mesh.specs.declared.element.Pair.{Pair}
 use Rattle.mesh.specs.declared.element.Tet.{Tet}
-use Rattle.mesh.specs.Sort.{insert, sort, uniqueAfter, unique}
+use Rattle.mesh.specs.Sort.{sort, uniqueAfter, unique}
 use Rattle.mesh.specs.Complex.{keep, IsElement, Proper}
 use Rattle.mesh.specs.Tests.{every}
 use Rattle.mesh.specs.Element.{samePair, verticesOf}
 use Rattle.mesh.proofs.Laws.Complex.Sets.{split, and-fst, and-snd, mem-here, mem-there, out-head, out-tail}
 use Rattle.mesh.proofs.Laws.Complex.Tets.{tet-of}
 use Rattle.mesh.proofs.Laws.Link.Members.{kept-elim}
+use Rattle.mesh.proofs.Laws.Boundary.Same.{sort-every}
 use Rattle.repair.specs.Mesh.{Measure, edge, edgesOf, allEdges, isBad}
 use Rattle.repair.specs.Improve.{leEdge, listedEdges}
 
@@ -34,19 +35,6 @@ module _ {A : Type 0} (p : A → Bool) where
   every-keep q (x ∷ xs) h =
       let ih : every p (keep q xs) ≡ true = every-keep q xs (and-snd (p x) (every p xs) h) in
       elim (split (q x)) [ inl k ↦ rw (k, and-fst (p x) (every p xs) h) ih | inr k ↦ rw k ih ]
-
-  every-insert : (le : A → A → Bool) (x : A) (xs : List A) → p x ≡ true → every p xs ≡ true → every p (insert le x xs) ≡ true
-  unfolding insert
-  every-insert le x [] h k = rw h refl
-  every-insert le x (y ∷ xs) h k =
-      let hy = and-fst (p y) (every p xs) k in
-      let hs = and-snd (p y) (every p xs) k in
-      elim (split (le x y)) [ inl e ↦ rw (e, h, hy) hs | inr e ↦ rw (e, hy) (every-insert le x xs h hs) ]
-
-  pub every-sort : (le : A → A → Bool) (xs : List A) → every p xs ≡ true → every p (sort le xs) ≡ true
-  unfolding sort
-  every-sort le [] h = refl
-  every-sort le (x ∷ xs) h = every-insert le x (sort le xs) (and-fst (p x) (every p xs) h) (every-sort le xs (and-snd (p x) (every p xs) h))
 
   every-after : (eq : A → A → Bool) (q : A) (xs : List A) → every p xs ≡ true → every p (uniqueAfter eq q xs) ≡ true
   unfolding uniqueAfter
@@ -103,7 +91,7 @@ edges-join n (t ∷ ts) h = every-append (joins n) (edgesOf t) (allEdges ts) (fo
 listed-every : (p : Pair → Bool) (μ : Measure) (h : Float) (ts : List Tet) → every p (allEdges (keep (isBad μ) ts)) ≡ true → every p (listedEdges μ h ts) ≡ true
 unfolding listedEdges
 listed-every p μ h ts k =
-    every-unique p samePair (sort (leEdge μ) (keep short bads)) (every-sort p (leEdge μ) (keep short bads) (every-keep p short bads k))
+    every-unique p samePair (sort (leEdge μ) (keep short bads)) (sort-every p (leEdge μ) (keep short bads) (every-keep p short bads k))
   where
     short : Pair → Bool
     short e = lt (μ .length e) (threeQuarters *₆₄ h)

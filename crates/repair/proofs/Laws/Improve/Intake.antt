@@ -1,21 +1,21 @@
 -- What the answer 0 of intake means: each test of the table passed. So the elements are proper: four different vertices in range each, and
 -- no two with the same four. Assumes nothing.
 use mathlib.Core.Path.{_≡_, refl, sym, subst}
-use mathlib.Core.Logic.{_≢_, inl, inr}
+use mathlib.Core.Logic.{_≢_}
 use mathlib.Core.Bool.{Bool, true, false, not, cond, _&&_, _||_}
 use mathlib.Core.List.{List, [], _∷_, map, List·Memᴰ, Memᴰ·of-map}
-use Prim.Native.Nat.{ℕ, _<_}
+use Prim.Native.Nat.{ℕ}
 use native.Mathlib.Omega.{arith}
-use borrow.Author.Tests.{ltb-true, not-true, not-false}
-use lib.Dec.{ltb}
+use borrow.Author.Tests.{not-true, not-false}
 use Rattle.mesh.specs.declared.element.Tet.{Tet}
-use Rattle.mesh.specs.Complex.{IsElement, mem, sub, Nodup, Sub, Proper}
+use Rattle.mesh.specs.Complex.{IsElement, sub, Sub, Proper}
 use Rattle.mesh.specs.Tests.{every, nodup, under}
 use Rattle.mesh.specs.Element.{verticesOf}
 use Rattle.mesh.specs.Boundary.{boundaryNumber}
 use Rattle.mesh.specs.Intake.{Given, tooMany, tooShort, optionsIn, fieldsIn, sizedPoint, inBox, wellNumbered, sameVertices, allDifferent, upright, intake}
-use Rattle.mesh.proofs.Laws.Complex.Sets.{clash, and-fst, and-snd, mem-nil, mem-cases, sub-intro}
+use Rattle.mesh.proofs.Laws.Complex.Sets.{clash, and-fst, and-snd, sub-intro}
 use Rattle.mesh.proofs.Laws.Link.Members.{every-elim}
+use Rattle.mesh.proofs.Laws.Complex.Tests.{nodup-sound, under-sound}
 
 pub record Passed (g : Given) : Type 0 where
   -- 10
@@ -80,18 +80,6 @@ intake-passed g h =
     }
 
 -- ---- the elements are proper
-
-pub nodup-sound : (e : List ℕ) → nodup e ≡ true → Nodup e
-nodup-sound [] h = tt
-nodup-sound (x ∷ e) h = (not-true (mem x e) (and-fst (not (mem x e)) (nodup e) h), nodup-sound e (and-snd (not (mem x e)) (nodup e) h))
-
-pub under-sound : (n : ℕ) (e : List ℕ) → under n e ≡ true → (x : ℕ) → mem x e ≡ true → x < n
-under-sound n [] h x m = absurd (mem-nil x m)
-under-sound n (y ∷ e) h x m =
-    elim (mem-cases x y e m) [
-      | inl q ↦ rw q (ltb-true y n (and-fst (ltb y n) (under n e) h))
-      | inr q ↦ under-sound n e (and-snd (ltb y n) (under n e) h) x q
-    ]
 
 -- an element with four different vertices below n
 pub numbered-element : (n : ℕ) (t : Tet) → wellNumbered n t ≡ true → IsElement n (verticesOf t)

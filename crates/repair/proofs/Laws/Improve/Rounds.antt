@@ -22,7 +22,6 @@ use Rattle.mesh.specs.Feature.{linkOk}
 use Rattle.mesh.proofs.Laws.Complex.Sets.{split, nope, clash, or-left, and-fst, and-snd, mem-cases, out-head, out-tail}
 use Rattle.mesh.proofs.Laws.Complex.Steps.{run-keeps}
 use Rattle.mesh.proofs.Laws.Link.Members.{kept-elim, kept-intro}
-use Rattle.mesh.proofs.Laws.Link.Labels.{onto-cases}
 use Rattle.repair.specs.Mesh.{Mesh, Measure, any, has}
 use Rattle.repair.specs.Improve.{State, stratumOf, stratumRule, image, imageOf, about, collapsed, go, rounds}
 use Rattle.repair.specs.Wholeness.{Exact}
@@ -31,6 +30,7 @@ use Rattle.repair.proofs.Laws.Improve.Collapse.{image-onto, collapse-st
 use Rattle.repair.proofs.Laws.Improve.Edges.{joins, listed-join}
 use Rattle.repair.proofs.Laws.Improve.Passes.{Tried, Joined, joined, joined-back, rounds-keep}
 use Rattle.repair.proofs.Laws.Improve.Scores.{Floor, floor-more, gains-above, gains-floor}
+use Rattle.mesh.proofs.Laws.Complex.Collapse.{onto-cases}
 
 -- ---- the elements after one collapse
 

@@ -3,7 +3,7 @@
 use mathlib.Core.Path.{_≡_, refl, sym, ap, subst, _∙_}
 use mathlib.Core.Logic.{inl, inr}
 use mathlib.Core.Bool.{true, not}
-use mathlib.Core.List.{List, [], _∷_, _++_, map, List·Memᴰ, List·Memᴰ·not-nil, List·Memᴰ·cases-cons, Memᴰ·of-map}
+use mathlib.Core.List.{List, [], _∷_, map, List·Memᴰ, List·Memᴰ·not-nil, List·Memᴰ·cases-cons, Memᴰ·of-map}
 use Prim.Native.Nat.{ℕ, _<_}
 use native.Mathlib.Omega.{arith}
 use borrow.Author.Tests.{eqb-true, eqb-false}
@@ -16,6 +16,7 @@ use Rattle.mesh.specs.Complex.{mem, within}
 use Rattle.mesh.specs.Moves.{Renumbers, renumber, Step, renumbers}
 use Rattle.mesh.specs.Element.{verticesOf}
 use Rattle.mesh.proofs.Laws.Complex.Sets.{split, mem-here, mem-there, mem-cases, mem-nil, within-elim, keep-mem}
+use Rattle.mesh.proofs.Laws.Star.Chains.{mem-left, mem-right}
 use Rattle.repair.specs.Improve.{imageOf, allVertices, firstUses, placeOf}
 
 -- ---- places
@@ -66,22 +67,13 @@ first-mem v (w ∷ vs) h =
           ]
     ]
 
-append-left : (v : ℕ) (xs ys : List ℕ) → mem v xs ≡ true → mem v (xs ++ ys) ≡ true
-append-left v [] ys h = absurd (mem-nil v h)
-append-left v (x ∷ xs) ys h =
-    elim (mem-cases v x xs h) [ inl e ↦ rw e (mem-here x (xs ++ ys)) | inr k ↦ mem-there v x (xs ++ ys) (append-left v xs ys k) ]
-
-append-right : (v : ℕ) (xs ys : List ℕ) → mem v ys ≡ true → mem v (xs ++ ys) ≡ true
-append-right v [] ys h = h
-append-right v (x ∷ xs) ys h = mem-there v x (xs ++ ys) (append-right v xs ys h)
-
 all-mem : (v : ℕ) {t : Tet} (ts : List Tet) → List·Memᴰ t ts → mem v (verticesOf t) ≡ true → mem v (allVertices ts) ≡ true
 unfolding allVertices
 all-mem v [] m h = absurd (List·Memᴰ·not-nil m)
 all-mem v {t} (u ∷ ts) m h =
     elim (List·Memᴰ·cases-cons m) [
-      | inl e ↦ append-left v (verticesOf u) (allVertices ts) (rw e at h)
-      | inr k ↦ append-right v (verticesOf u) (allVertices ts) (all-mem v ts k h)
+      | inl e ↦ mem-left v (verticesOf u) (allVertices ts) (rw e at h)
+      | inr k ↦ mem-right v (verticesOf u) (allVertices ts) (all-mem v ts k h)
     ]
 
 -- the vertices used, in the order of their first use

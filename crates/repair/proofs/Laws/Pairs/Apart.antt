@@ -26,9 +26,9 @@ use Rattle.repair.specs.Layout.{Apart, Pairs, Stands}
 use Rattle.repair.specs.Pairs.{seconds, Paired}
 use Rattle.repair.proofs.Laws.Improve.Single.{ranks-sound, ranks-refl}
 use Rattle.repair.proofs.Laws.Improve.Counts.{firsts, firsts-mem, firsts-nodup, active-nodup, active-self, some-length}
-use Rattle.repair.proofs.Laws.Improve.Intake.{nodup-sound}
 use Rattle.repair.proofs.Laws.Pairs.Rows.{below-group}
 use Rattle.repair.proofs.Laws.Pairs.Partners.{partner-cases}
+use Rattle.mesh.proofs.Laws.Complex.Tests.{nodup-sound}
 
 -- ---- lists of pairs
 

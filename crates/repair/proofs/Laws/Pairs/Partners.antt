@@ -14,10 +14,10 @@ use Rattle.mesh.specs.Complex.{mem}
 use Rattle.mesh.specs.Tests.{nodup}
 use Rattle.mesh.specs.Element.{pair}
 use Rattle.mesh.proofs.Laws.Complex.Sets.{split, clash, nope, or-left, and-fst, and-snd, mem-here, mem-there, mem-cases, mem-nil}
+use Rattle.mesh.proofs.Laws.Star.Chains.{mem-either}
 use Rattle.repair.specs.Mesh.{Mesh}
 use Rattle.repair.specs.Improve.{capOf, partner, partners, pairOff}
 use Rattle.repair.specs.Pairs.{only, seconds, isNew}
-use Rattle.repair.proofs.Laws.Improve.Counts.{append-cases}
 
 -- ---- lists without repetition
 
@@ -27,7 +27,7 @@ seconds-append [] fs = refl
 seconds-append (e ∷ es) fs = ap (λ (l : List ℕ). e .b ∷ l) (seconds-append es fs)
 
 mem-last : (x : ℕ) (xs : List ℕ) (y : ℕ) → mem x xs ≡ false → (x ≡ y → ⊥) → mem x (xs ++ (y ∷ [])) ≡ false
-mem-last x xs y h n = nope (λ m. elim (append-cases x xs (y ∷ []) m) [ inl q ↦ clash q h | inr q ↦ elim (mem-cases x y [] q) [ inl e ↦ n e | inr z ↦ mem-nil x z ] ])
+mem-last x xs y h n = nope (λ m. elim (mem-either x xs (y ∷ []) m) [ inl q ↦ clash q h | inr q ↦ elim (mem-cases x y [] q) [ inl e ↦ n e | inr z ↦ mem-nil x z ] ])
 
 -- one more that is new
 pub nodup-last : (xs : List ℕ) (y : ℕ) → nodup xs ≡ true → mem y xs ≡ false → nodup (xs ++ (y ∷ [])) ≡ true

@@ -14,7 +14,7 @@ use Rattle.geometry.specs.declared.point.Point.{Point}
 use Rattle.geometry.specs.declared.bounds.Options.{Options}
 use Rattle.mesh.specs.declared.star.Index.{Index}
 use Rattle.mesh.specs.Words.{wordAt}
-use Rattle.mesh.specs.Sort.{sort, ordered, headed, leading, unique, uniqueAfter}
+use Rattle.mesh.specs.Sort.{sort, ordered, headed, unique, uniqueAfter}
 use Rattle.mesh.specs.Rows.{rows, flat, leRow, eqRow, fitRows, run, runLength, reaches, firstAtLeast}
 use Rattle.mesh.specs.Complex.{mem, keep}
 use Rattle.mesh.specs.Tests.{every}
@@ -26,14 +26,15 @@ use Rattle.mesh.proofs.Laws.SortedRows.{ordered-sort-rows}
 use Rattle.mesh.proofs.Laws.Rows.{leRow-trans, leRow-anti, leRow-take, leRow-refl, eqRow-refl, eqRow-sound, shape-sort, rows-flat, rows-take, rows-at, length-rows, take-rows, drop-rows}
 use Rattle.mesh.proofs.Laws.Runs.{length-is}
 use Rattle.mesh.proofs.Laws.Halving.{First, first-at-least}
-use Rattle.mesh.proofs.Laws.Manifold.Fill.{shape-numbered}
+use Rattle.mesh.proofs.Laws.Manifold.Fill.{shape-numbered, numbers-mem}
 use Rattle.mesh.proofs.Laws.Manifold.RowRuns.{run-turn, sorted-runs}
 use Rattle.mesh.proofs.Laws.Group.Runs.{run-of-vertex}
 use Rattle.repair.specs.declared.pairs.Run.{Run}
 use Rattle.repair.specs.Pairs.{Ranked, members, membersOf, IsGroup}
 use Rattle.repair.proofs.Laws.Improve.Single.{ranks-refl}
 use Rattle.repair.proofs.Laws.Improve.Edges.{every-keep}
-use Rattle.repair.proofs.Laws.Improve.Counts.{numbers-mem, some-length}
+use Rattle.repair.proofs.Laws.Improve.Counts.{some-length}
+use Rattle.repair.proofs.Laws.Site.Groups.{run-few}
 
 -- ---- the rows of a key in sorted rows
 
@@ -92,17 +93,6 @@ members-rows i (suc n) w =
     let q : i * 7 + 7 ≡ (i + 1) * 7 = omega arith in
     ap₂ (λ (u : ℕ) (l : List ℕ). u ∷ l) (sym (getD-take 7 (drop (i * 7) w) 6 0 (omega arith) ∙ getD-drop (i * 7) w 6 0 ∙ ap (wordAt w) p))
     (members-rows (i + 1) n w ∙ ap (λ (l : List ℕ). map vertexIn (rows 7 n l)) (sym (drop-drop 7 (i * 7) w ∙ ap (λ (u : ℕ). drop u w) q)))
-
--- a run has no more rows than there are
-leading-most : (p : List ℕ → Bool) (l : List (List ℕ)) → leading p l ≤ length l
-unfolding leading
-leading-most p [] = omega arith
-leading-most p (r ∷ l) = let ih = leading-most p l in elim (split (p r)) [ inl e ↦ rw e (omega arith) | inr e ↦ rw e (omega arith) ]
-
-run-most : (l : List (List ℕ)) → run 6 l ≤ length l
-unfolding run
-run-most [] = omega arith
-run-most (r ∷ l) = leading-most (λ q. eqRow (take 6 r) (take 6 q)) (r ∷ l)
 
 -- numbers below a bound
 below-numbers : (k n m : ℕ) → k + n ≤ m → every (λ v. ltb v m) (numbers k n) ≡ true
@@ -173,7 +163,7 @@ module _ {o : Options} {ps : List Point} {x : Index} {w : List ℕ} (R : Ranked 
 
   -- the rows found are rows of the n
   pub group-inside : first + size ≤ x .vertices
-  group-inside = omega (arith, first-most, size-is, run-most (drop first (rows 7 (x .vertices) w)), length-drop first (rows 7 (x .vertices) w), length-rows 7 (x .vertices) w)
+  group-inside = omega (arith, first-most, size-is, run-few (drop first (rows 7 (x .vertices) w)), length-drop first (rows 7 (x .vertices) w), length-rows 7 (x .vertices) w)
 
   -- the rows found
   rows-found : rows 7 size (drop (first * 7) w) ≡ take size (drop first (rows 7 (x .vertices) w))

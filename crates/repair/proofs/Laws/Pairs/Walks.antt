@@ -1,5 +1,5 @@
 -- Walks along the rows of a group and along the pairs: what holds at the heads of the loops. Assumes nothing.
-use mathlib.Core.Path.{_≡_, refl, sym, ap, ap₂, subst, _∙_}
+use mathlib.Core.Path.{_≡_, refl, sym, ap, subst, _∙_}
 use mathlib.Core.Logic.{inl, inr}
 use mathlib.Core.Bool.{Bool, true, false, _||_}
 use mathlib.Core.List.{List, [], _∷_}
@@ -10,15 +10,14 @@ use native.Mathlib.Omega.{arith}
 use borrow.Author.Tests.{lt-ltb, le-ltb, ltb-true, eqb-true, eqb-false, eq-eqb, ne-eqb}
 use lib.Dec.{eqb, ltb}
 use lib.ListN.{length, drop}
-use lib.Seq.{drop-drop, getD-drop}
 use Rattle.geometry.specs.declared.bounds.Options.{Options}
 use Rattle.mesh.specs.declared.element.Pair.{Pair}
 use Rattle.mesh.specs.declared.star.Index.{Index}
 use Rattle.mesh.specs.Words.{wordAt}
 use Rattle.mesh.specs.Complex.{mem, keep}
 use Rattle.mesh.specs.Tests.{every}
-use Rattle.mesh.specs.Element.{pair}
 use Rattle.mesh.proofs.Laws.Complex.Sets.{split, and-fst, and-snd, or-left}
+use Rattle.repair.proofs.Laws.Gain.Judging.{pairs-next}
 use Rattle.repair.specs.declared.pairs.Run.{Run}
 use Rattle.repair.specs.Mesh.{Mesh}
 use Rattle.repair.specs.Improve.{capOf, partner}
@@ -149,14 +148,6 @@ module _ {x : Index} {w : List ℕ} {g : Run} {k i left more : ℕ} (c : Counted
 
 -- ---- the seconds of pairs
 
--- the first pair left
-pairs-turn : (k i : ℕ) (w : List ℕ) → 0 < k → pairsOf k (drop i w) ≡ pair (wordAt w i) (wordAt w (i + 1)) ∷ pairsOf (k - 1) (drop (i + 2) w)
-unfolding pairsOf
-pairs-turn zero i w h = absurd (not-suc-le-zero h)
-pairs-turn (suc k) i w h =
-    let z : i + 0 ≡ i = omega arith in
-    rw sub-one (ap₂ (λ (e : Pair) (l : List Pair). e ∷ l) (ap₂ (λ (a b : ℕ). pair a b) (getD-drop i w 0 0 ∙ ap (wordAt w) z) (getD-drop i w 1 0)) (ap (pairsOf k) (drop-drop 2 i w)))
-
 -- what holds at the head of the loop
 pub record Asking (w : List ℕ) (p k u i left : ℕ) : Type 0 where
   pub end : i + 2 * left ≡ p + 2 * k
@@ -168,7 +159,7 @@ ask-start w p k u = record { end = refl; rest = refl }
 module _ {w : List ℕ} {p k u i left : ℕ} (q : Asking w p k u i left) where
   -- the first pair's second vertex and those behind it
   ask-head : 0 < left → (eqb u (wordAt w (i + 1)) || mem u (seconds (pairsOf (left - 1) (drop (i + 2) w)))) ≡ mem u (seconds (pairsOf k (drop p w)))
-  ask-head h = ap (λ (l : List Pair). mem u (seconds l)) (sym (pairs-turn left i w h)) ∙ q .rest
+  ask-head h = ap (λ (l : List Pair). mem u (seconds l)) (sym (pairs-next left i w h)) ∙ q .rest
 
   pub ask-yes : 0 < left → u ≡ wordAt w (i + 1) → true ≡ mem u (seconds (pairsOf k (drop p w)))
   ask-yes h e = sym (or-left (mem u (seconds (pairsOf (left - 1) (drop (i + 2) w)))) (eq-eqb u (wordAt w (i + 1)) e)) ∙ ask-head h

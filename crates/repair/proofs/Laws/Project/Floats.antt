@@ -3,15 +3,11 @@ use Prim.Native.Nat.{ℕ, _*_}
 use mathlib.Core.Path.{_≡_, refl, sym, _∙_}
 use mathlib.Core.Bool.{Bool, true, false, not, cond, _||_}
 use lib.IntN.{ℤ}
-use borrow.Author.Tests.{eq-eqb}
-use lib.Dec.{eqb}
 use lib.Ieee.{Float, nan, inf, fin, up, down, neg, lt, eq, ne, isNan}
 use Rattle.geometry.specs.Float.{zero64, absolute}
 use Rattle.geometry.proofs.Laws.Word.Nan.{is-nan, no-nan}
+use Rattle.mesh.proofs.Laws.Numbers.{eqb-same}
 use Rattle.repair.specs.Project.{finite, smallerSize}
-
-eqb-same : (n : ℕ) → eqb n n ≡ true
-eqb-same n = eq-eqb n n refl
 
 -- nothing is below a NaN
 or-none : (b : Bool) (x : Float) → (b || lt x (absolute nan)) ≡ b

@@ -19,6 +19,7 @@ use Rattle.mesh.specs.Sets.{among}
 use Rattle.mesh.specs.Element.{pair, samePair, verticesOf}
 use Rattle.mesh.proofs.Laws.Complex.Sets.{split, clash, nope, or-right, and-fst, and-snd, mem-here, mem-there, mem-cases, mem-nil, out-tail}
 use Rattle.mesh.proofs.Laws.Star.Chains.{few-below}
+use Rattle.mesh.proofs.Laws.Complex.Renumber.{map-mem}
 use Rattle.repair.specs.Improve.{image, imageOf, collapsed}
 use Rattle.repair.specs.Layout.{Apart, Pairs, pairsOf}
 
@@ -84,17 +85,12 @@ image-more e es d p v =
 
 -- ---- elements
 
-mem-image : (g : ℕ → ℕ) (v : ℕ) (l : List ℕ) → mem v l ≡ true → mem (g v) (map g l) ≡ true
-mem-image g v [] h = absurd (mem-nil v h)
-mem-image g v (u ∷ l) h =
-    elim (mem-cases v u l h) [ inl e ↦ rw e (mem-here (g u) (map g l)) | inr m ↦ mem-there (g v) (g u) (map g l) (mem-image g v l m) ]
-
 -- vertices with different images are different
 nodup-back : (g : ℕ → ℕ) (l : List ℕ) → nodup (map g l) ≡ true → nodup l ≡ true
 nodup-back g [] h = refl
 nodup-back g (v ∷ l) h =
     let o = not-true (mem (g v) (map g l)) (and-fst (not (mem (g v) (map g l))) (nodup (map g l)) h) in
-    rw (nope (λ m. clash (mem-image g v l m) o)) (nodup-back g l (and-snd (not (mem (g v) (map g l))) (nodup (map g l)) h))
+    rw (nope (λ m. clash (map-mem g v l m) o)) (nodup-back g l (and-snd (not (mem (g v) (map g l))) (nodup (map g l)) h))
 
 -- an element that went before would go in the end
 keep-twice : (f g : ℕ → ℕ) (ts : List Tet) → keep (λ t. nodup (verticesOf t)) (map (imageOf (λ v. g (f v))) ts)

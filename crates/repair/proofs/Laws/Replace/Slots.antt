@@ -17,13 +17,14 @@ use Rattle.mesh.specs.List.{gone}
 use Rattle.mesh.specs.Star.{goneWord, goneTet}
 use Rattle.mesh.proofs.Laws.Bools.{and-intro}
 use Rattle.mesh.proofs.Laws.Complex.Sets.{split, nope, or-cases, and-fst, and-snd, mem-here, mem-there, out-head, out-tail}
-use Rattle.mesh.proofs.Laws.Link.Labels.{onto-cases, onto-other}
+use Rattle.mesh.proofs.Laws.Link.Labels.{onto-other}
 use Rattle.repair.specs.Mesh.{has}
 use Rattle.repair.specs.Improve.{imageOf, collapsed}
 use Rattle.repair.specs.Layout.{slotOk}
 use Rattle.repair.specs.Replace.{slotAfter}
 use Rattle.repair.proofs.Laws.Improve.Collapse.{nodup-onto, merged, collapsed-merged}
-use Rattle.repair.proofs.Laws.Improve.Intake.{nodup-sound, under-sound}
+use Rattle.mesh.proofs.Laws.Complex.Collapse.{onto-cases}
+use Rattle.mesh.proofs.Laws.Complex.Tests.{nodup-sound, under-sound}
 
 -- ---- a slot without a
 

@@ -16,7 +16,7 @@ use Rattle.geometry.specs.declared.field.Field.{Field}
 use Rattle.geometry.specs.Rank.{rank}
 use Rattle.mesh.specs.declared.star.Index.{Index}
 use Rattle.mesh.specs.Words.{pointsOf}
-use Rattle.mesh.specs.Sort.{sort, unique, leading}
+use Rattle.mesh.specs.Sort.{sort, unique}
 use Rattle.mesh.specs.Rows.{rows, run, runLength, fitRows}
 use Rattle.mesh.specs.Complex.{keep, Nodup}
 use Rattle.mesh.specs.Tests.{under}
@@ -30,6 +30,7 @@ use Rattle.mesh.proofs.Laws.Intake.Reads.{length-points}
 use Rattle.repair.specs.Smooth.{smoothGroup, smoothGroups}
 use Rattle.repair.specs.Site.{members, stateOf, Turned, Ready, Rows, meshFor, Grouped}
 use Rattle.repair.proofs.Laws.Site.Near.{kept-rising}
+use Rattle.mesh.proofs.Laws.Manifold.Steps.{leading-few}
 
 -- ---- groups of different vertices
 
@@ -70,12 +71,7 @@ rows-members w p (suc c) =
     ap₂ (λ (v : ℕ) (l : List ℕ). v ∷ l) (sym (getD-take 7 (drop p w) 6 0 (omega arith) ∙ getD-drop p w 6 0))
     (ap (λ (i : ℕ). members w i c) e ∙ rows-members w (p + 7) c ∙ ap (λ (l : List ℕ). map vertexIn (rows 7 c l)) (sym (drop-drop 7 p w)))
 
-leading-few : {A : Type 0} (p : A → Bool) (l : List A) → leading p l ≤ length l
-unfolding leading
-leading-few p [] = omega arith
-leading-few p (x ∷ l) = let h = leading-few p l in elim (split (p x)) [ inl e ↦ rw e (omega arith) | inr e ↦ rw e (omega arith) ]
-
-run-few : (rs : List (List ℕ)) → run 6 rs ≤ length rs
+pub run-few : (rs : List (List ℕ)) → run 6 rs ≤ length rs
 unfolding run
 run-few [] = omega arith
 run-few (r ∷ rs) = leading-few (sameFirst 6 r) (r ∷ rs)

@@ -5,7 +5,7 @@ use mathlib.Core.Bool.{Bool, true, false, not, cond, _&&_, _||_}
 use mathlib.Core.List.{List, [], _∷_, _++_}
 use Prim.Native.Nat.{ℕ, zero, suc, _+_, _≤_, _<_}
 use native.Mathlib.Omega.{arith}
-use borrow.Author.Tests.{ltb-true, ltb-false, eqb-false, lt-leb}
+use borrow.Author.Tests.{ltb-true, lt-leb}
 use lib.Dec.{eqb, ltb, leb}
 use lib.ListN.{length}
 use Rattle.mesh.specs.declared.element.Tet.{Tet}
@@ -16,23 +16,13 @@ use Rattle.mesh.specs.Element.{verticesOf}
 use Rattle.mesh.specs.Group.{numbers}
 use Rattle.mesh.specs.Intake.{wellNumbered}
 use Rattle.mesh.specs.Star.{butFor, othersOf, neighboursOf}
-use Rattle.mesh.proofs.Laws.Complex.Sets.{split, clash, or-left, or-right, and-fst, and-snd, mem-cases, mem-nil, keep-mem}
+use Rattle.mesh.proofs.Laws.Complex.Sets.{split, clash, and-fst, and-snd, mem-cases, mem-nil, keep-mem}
 use Rattle.mesh.proofs.Laws.Star.Distinct.{distinct-is}
+use Rattle.mesh.proofs.Laws.Manifold.Fill.{numbers-mem}
 use Rattle.repair.specs.Mesh.{any, has}
 use Rattle.repair.specs.Smooth.{neighbours}
 
 -- ---- the numbers from k on
-
-numbers-mem : (z k n : ℕ) → k ≤ z → z < k + n → mem z (numbers k n) ≡ true
-unfolding numbers
-numbers-mem z k zero h l = absurd (omega arith)
-numbers-mem z k (suc n) h l = elim (split (eqb z k)) [
-  | inl e ↦ or-left (mem z (numbers (k + 1) n)) e
-  | inr e ↦ let q = eqb-false z k e in or-right (eqb z k) (numbers-mem z (k + 1) n (above q) (omega arith))
-]
-  where
-    above : (z ≡ k → ⊥) → k + 1 ≤ z
-    above q = elim (split (ltb k z)) [ inl e ↦ let g = ltb-true k z e in omega arith | inr e ↦ let g = ltb-false k z e in absurd (q (omega arith)) ]
 
 -- some of them in their order rise
 headed-kept : (p : ℕ → Bool) (j k n : ℕ) → j < k → headed (before leb) j (keep p (numbers k n)) ≡ true
@@ -106,7 +96,7 @@ near-is nv v ts h = distinct-is (othersOf v ts) (keep p (numbers 0 nv)) (kept-ri
 
     in-range : (z : ℕ) → (mem z (numbers 0 nv) && p z) ≡ p z
     in-range z = elim (split (p z)) [
-      | inl e ↦ ap (λ (b : Bool). b && p z) (numbers-mem z 0 nv (omega arith) (let g = any-below nv v z ts h (and-snd (not (eqb z v)) (any (λ t. has v t && has z t) ts) e) in omega arith))
+      | inl e ↦ ap (λ (b : Bool). b && p z) (numbers-mem 0 nv z (omega arith) (let g = any-below nv v z ts h (and-snd (not (eqb z v)) (any (λ t. has v t && has z t) ts) e) in omega arith))
       | inr e ↦ rw e (no (mem z (numbers 0 nv)))
     ]
       where

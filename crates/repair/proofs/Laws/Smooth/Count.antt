@@ -16,6 +16,7 @@ use Rattle.geometry.specs.Literals.{fifteenHundredths}
 use Rattle.mesh.specs.Group.{groups}
 use Rattle.repair.specs.Mesh.{Mesh, made, measure, lowestOf}
 use Rattle.repair.specs.Smooth.{State, placed, moveTo, aboutGroup, bestFor, taken, smoothGroup, smoothGroups, smooth}
+use Rattle.repair.proofs.Laws.Results.{mesh-of, count-of}
 
 -- from s to t each of these groups stays, or moves to a point
 pub data Moves (o : Options) : List (List ℕ) → State → State → Type 0 where
@@ -113,12 +114,6 @@ module _ (o : Options) (fields : List Field) (regions : Option (List ℕ)) (m : 
         points = ap (λ x. x .points) (sym (mesh-of e));
       }
     where
-      mesh-of : {n : ℕ} {x : Mesh} → made n x ≡ made count m′ → x ≡ m′
-      mesh-of z = cc
-
-      count-of : {n : ℕ} {x : Mesh} → made n x ≡ made count m′ → n ≡ count
-      count-of z = cc
-
       zero : (n : ℕ) → 0 + n ≡ n
       zero n = omega arith
 

@@ -22,6 +22,7 @@ use Rattle.repair.specs.Wholeness.{Exact}
 use Rattle.repair.specs.Smooth.{State, smoothGroups, smooth}
 use Rattle.repair.proofs.Laws.Smooth.Scores.{AllNear, score-exact, lowest-exact, lowest-one, lowest-under, lowest-over, no-loss}
 use Rattle.repair.proofs.Laws.Smooth.Group.{Kept, Long, groups-keep, groups-long}
+use Rattle.repair.proofs.Laws.Results.{mesh-of}
 
 -- the mesh m′ that `smooth` makes of m
 pub record Smoothed (m m′ : Mesh) : Type 0 where
@@ -66,9 +67,6 @@ module _ (o : Options) (low : sizedPoint (o .bounds .lo) ≡ true) (high : sized
 
       long : Long start (smoothGroups o fields regions m start (groups o (m .parameters)))
       long = groups-long o fields regions m start start (groups o (m .parameters)) (record { parameters = refl; points = refl })
-
-      mesh-of : {n : ℕ} {x : Mesh} → made n x ≡ made count m′ → x ≡ m′
-      mesh-of z = cc
 
 -- so the alternating count is the same
 pub smooth-alternates : (m m′ : Mesh) → Smoothed m m′

@@ -18,10 +18,10 @@ use Rattle.geometry.specs.Root.{sqrt}
 use Rattle.geometry.specs.Point.{determinant}
 use Rattle.geometry.specs.Score.{R, squaredEdges, score, lowestFrom, lowest}
 use Rattle.geometry.specs.Units.{unitsOf}
-use Rattle.geometry.proofs.Laws.Float.Units.{lt-units}
 use Rattle.geometry.proofs.Laws.Float.Tolerance.{above}
 use Rattle.geometry.proofs.Laws.Score.Near.{Near}
 use Rattle.geometry.proofs.Laws.Score.Finite.{score-not-negative}
+use Rattle.repair.proofs.Laws.Improve.Scores.{exact-fits, exact-lt, one-exact}
 use Rattle.mesh.specs.declared.element.Tet.{Tet}
 use Rattle.mesh.specs.Words.{pointAt}
 use Rattle.repair.specs.Mesh.{scoreOf}
@@ -33,7 +33,7 @@ use Rattle.repair.specs.Wholeness.{Exact}
 abbrev pub AllNear : List Point → Type 0
 AllNear ps = (v : ℕ) → Near 20 (pointAt ps v)
 
-score-fits : (a b c d : Point) → T (fits binary64 (score a b c d))
+pub score-fits : (a b c d : Point) → T (fits binary64 (score a b c d))
 unfolding score
 score-fits a b c d =
     cond-fits binary64 (eq (squaredEdges a b c d *₆₄ sqrt (squaredEdges a b c d)) zero64) zero64
@@ -43,7 +43,7 @@ score-fits a b c d =
     zero-fits : T (fits binary64 zero64)
     zero-fits = unfold fits in tt
 
-is-true : (b : Bool) → T b → b ≡ true
+pub is-true : (b : Bool) → T b → b ≡ true
 is-true true t = refl
 is-true false t = absurd t
 
@@ -54,21 +54,11 @@ score-exact ps near t = (
   score-not-negative (pointAt ps (t .a)) (pointAt ps (t .b)) (pointAt ps (t .c)) (pointAt ps (t .d)) (near (t .a)) (near (t .b)) (near (t .c)) (near (t .d)),
 )
 
-pub one-exact : Exact one64
-unfolding fits
-one-exact = (refl, tt)
-
 -- ---- the order of exact values
-
-test : (x : Float) → Exact x → T (fits binary64 x)
-test x e = subst T (sym (e .0)) tt
-
-pub lt-exact : (x y : Float) → Exact x → Exact y → lt x y ≡ ltb (unitsOf x) (unitsOf y)
-lt-exact x y e f = lt-units x y (test x e) (test y f) (e .1) (f .1)
 
 -- a value above y + 1e-10 is at least y
 pub above-exact : (x y : Float) → Exact x → Exact y → lt (y +₆₄ e-10) x ≡ true → unitsOf y ≤ unitsOf x
-above-exact x y e f h = above x y (test x e) (test y f) (e .1) (f .1) h
+above-exact x y e f h = above x y (exact-fits x e) (exact-fits y f) (e .1) (f .1) h
 
 -- the smaller of two: exact, at most both, and at least what both are at least
 pub smaller-exact : (x y : Float) → Exact x → Exact y → Exact (smaller x y)
@@ -79,7 +69,7 @@ smaller-exact x y e f = go (lt y x)
     go false = e
 
 pub smaller-under : (x y : Float) → Exact x → Exact y → (unitsOf (smaller x y) ≤ unitsOf x) × (unitsOf (smaller x y) ≤ unitsOf y)
-smaller-under x y e f = go (lt y x) (sym (lt-exact y x f e))
+smaller-under x y e f = go (lt y x) (sym (exact-lt y x f e))
   where
     go : (t : Bool) → ltb (unitsOf y) (unitsOf x) ≡ t → (unitsOf (cond t y x) ≤ unitsOf x) × (unitsOf (cond t y x) ≤ unitsOf y)
     go true h = let l = ltb-true (unitsOf y) (unitsOf x) h in (omega arith, omega arith)

@@ -2,8 +2,8 @@
 use borrow.Author.Needs.{needs}
 use native.Mathlib.Omega.{arith}
 use Rattle.mesh.specs.Words.{pointsOf}
-use Rattle.repair.proofs.Laws.Improve.Buffers.{length-points}
 use Rattle.repair.proofs.Laws.Begin.{begun}
+use Rattle.mesh.proofs.Laws.Intake.Reads.{length-points}
 use Rattle.repair.proofs.begin.begin.Statement.{statement}
 use Rattle.repair.proofs.begin.begin.Tie as tie
 

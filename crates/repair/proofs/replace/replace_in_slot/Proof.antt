@@ -2,8 +2,8 @@
 use borrow.Author.Needs.{needs}
 use mathlib.Core.Path.{ap, _∙_}
 use Rattle.mesh.specs.Intake.{tetAt}
-use Rattle.mesh.proofs.Laws.Manifold.Steps.{tail-mid}
 use Rattle.repair.proofs.Laws.Replace.Turns.{slot-is}
+use Rattle.mesh.proofs.Laws.Parts.{tail-mid}
 use Rattle.repair.proofs.replace.replace_in_slot.Statement.{statement}
 use Rattle.repair.proofs.replace.replace_in_slot.Tie as tie
 
