@@ -3,11 +3,11 @@ use mathlib.Core.Path.{_≡_, refl, sym, ap, subst, _∙_}
 use mathlib.Core.Bool.{Bool, true, false, cond}
 use mathlib.Core.Logic.{inl, inr}
 use mathlib.Core.List.{List, [], _∷_, _++_, map, append-assoc, append-nil, map-append}
-use Prim.Native.Nat.{ℕ, zero, suc, _+_, _*_, _<_}
+use Prim.Native.Nat.{ℕ, zero, suc, _+_, _<_}
 use native.Mathlib.Numerals.{add-one}
 use native.Mathlib.Omega.{arith}
 use lib.ListN.{length, take, drop, getD, length-append, length-map}
-use lib.Seq.{getD-drop, take-suc, length-take-le}
+use lib.Seq.{take-suc, length-take-le}
 use Rattle.geometry.specs.declared.point.Point.{Point}
 use Rattle.geometry.specs.declared.field.Field.{Field}
 use Rattle.geometry.specs.Score.{score}
@@ -20,25 +20,13 @@ use Rattle.mesh.proofs.Laws.List.Push.{keep-append}
 use Rattle.report.specs.Table.{insideLine, insideLines, elementLine, elementLines}
 use Rattle.report.specs.Written.{Written}
 use Rattle.report.proofs.Laws.Text.{written-then}
-
--- the element behind the first
-tet-next : (s : List ℕ) (i : ℕ) → tetAt (drop 4 s) i ≡ tetAt s (suc i)
-unfolding tetAt
-tet-next s i =
-    let a : getD (drop 4 s) (4 * i) 0 ≡ getD s (4 * suc i) 0 = getD-drop 4 s (4 * i) 0 ∙ at (4 + 4 * i) (4 * suc i) (omega arith) in
-    let b : getD (drop 4 s) (4 * i + 1) 0 ≡ getD s (4 * suc i + 1) 0 = getD-drop 4 s (4 * i + 1) 0 ∙ at (4 + (4 * i + 1)) (4 * suc i + 1) (omega arith) in
-    let c : getD (drop 4 s) (4 * i + 2) 0 ≡ getD s (4 * suc i + 2) 0 = getD-drop 4 s (4 * i + 2) 0 ∙ at (4 + (4 * i + 2)) (4 * suc i + 2) (omega arith) in
-    let d : getD (drop 4 s) (4 * i + 3) 0 ≡ getD s (4 * suc i + 3) 0 = getD-drop 4 s (4 * i + 3) 0 ∙ at (4 + (4 * i + 3)) (4 * suc i + 3) (omega arith) in
-    cc
-  where
-    at : (p q : ℕ) → p ≡ q → getD s p 0 ≡ getD s q 0
-    at p q e = ap (λ (k : ℕ). getD s k 0) e
+use Rattle.mesh.proofs.Laws.Intake.Reads.{tet-drop}
 
 -- one more element
 pub tets-more : (i : ℕ) (s : List ℕ) → tets (suc i) s ≡ tets i s ++ (tetAt s i ∷ [])
 unfolding tets tetAt
 tets-more zero s = refl
-tets-more (suc i) s = ap (λ (l : List Tet). tet (getD s 0 0) (getD s 1 0) (getD s 2 0) (getD s 3 0) ∷ l) (tets-more i (drop 4 s) ∙ ap (λ (t : Tet). tets i (drop 4 s) ++ (t ∷ [])) (tet-next s i))
+tets-more (suc i) s = ap (λ (l : List Tet). tet (getD s 0 0) (getD s 1 0) (getD s 2 0) (getD s 3 0) ∷ l) (tets-more i (drop 4 s) ∙ ap (λ (t : Tet). tets i (drop 4 s) ++ (t ∷ [])) (tet-drop s i))
 
 -- one more element counted
 pub count-more : (p : Tet → Bool) (s : List ℕ) (i k r : ℕ) (t : Tet) (b : Bool) → k ≡ length (keep p (tets i s)) → t ≡ tetAt s i → b ≡ p t → r ≡ cond b (k + 1) k

@@ -3,7 +3,7 @@ use mathlib.Core.Path.{_≡_, refl, ap, ap₂, _∙_}
 use mathlib.Core.Bool.{Bool, true, cond}
 use mathlib.Core.Logic.{inl, inr}
 use mathlib.Core.List.{List, [], _∷_, _++_}
-use Prim.Native.Nat.{ℕ, zero, suc, _+_, _-_, _*_, _%_, _^_, _<_, _≤_}
+use Prim.Native.Nat.{ℕ, _+_, _-_, _*_, _%_, _^_, _<_, _≤_}
 use native.Mathlib.Omega.{arith}
 use lib.Dec.{T, ltb, leb}
 use lib.Ieee.{Float, binary64, fits}
@@ -14,8 +14,6 @@ use Rattle.geometry.specs.declared.field.Field.the-variants.{Level, Plane, Ball
 use Rattle.geometry.specs.declared.point.Point.{Point}
 use Rattle.geometry.specs.Float.{zero64}
 use Rattle.geometry.specs.Word.{lowWord, highWord}
-use Rattle.mesh.specs.Group.{numbers}
-use Rattle.mesh.specs.Tests.{every}
 use Rattle.mesh.specs.Words.{zeroWords}
 use Rattle.mesh.proofs.Laws.Bools.{split}
 use Rattle.report.specs.Bytes.{wordIn, floatIn, pointFrom, listed}
@@ -24,6 +22,7 @@ use Rattle.report.specs.Write.{totalOf, checkOf, closed, blockFront, bou
 use Rattle.report.proofs.Laws.Write.Words.{word-back, listed-at}
 use Rattle.report.proofs.Laws.Write.Sizes.{field-length, place-length, header-length, block-length}
 use Rattle.report.proofs.Laws.Write.Holds.{Holds, holds-left, holds-right, holds-row, word-at, float-at}
+use Rattle.mesh.proofs.Laws.Manifold.Corners.{every-numbers}
 
 -- ---- a field
 
@@ -61,12 +60,6 @@ unfolding fieldWords
 kind-few (Level c) = refl
 kind-few (Plane n d) = refl
 kind-few (Ball c r) = refl
-
--- a test that all numbers from a on pass
-every-all : (t : ℕ → Bool) (a n : ℕ) → ((j : ℕ) → a ≤ j → j < a + n → t j ≡ true) → every t (numbers a n) ≡ true
-unfolding numbers
-every-all t a zero h = refl
-every-all t a (suc n) h = rw (h a (omega arith) (omega arith)) (every-all t (a + 1) n (λ j l g. h j (omega arith) (omega arith)))
 
 -- ---- the blocks' words
 
@@ -171,7 +164,7 @@ module _ (p : Plot) (ok : Sound p) where
   unfolding kindsNumber
   kinds-back =
       let few = ok .count-few in
-      rw (count-back, le-leb (p .count) 8 few) (ap (λ (b : Bool). cond b 0 11) (every-all (λ j. leb (kindAt (fileOf p) j) 2) 0 (p .count) (λ j a l. kind j (omega arith))))
+      rw (count-back, le-leb (p .count) 8 few) (ap (λ (b : Bool). cond b 0 11) (every-numbers (λ j. leb (kindAt (fileOf p) j) 2) 0 (p .count) (λ j a l. kind j (omega arith))))
     where
       kind : (j : ℕ) → j < p .count → leb (kindAt (fileOf p) j) 2 ≡ true
       kind j l =
