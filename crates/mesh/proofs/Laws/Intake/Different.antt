@@ -21,7 +21,7 @@ use Rattle.mesh.proofs.Laws.Intake.Twice.{distinct, distinct-neighbours
 use Rattle.mesh.proofs.Laws.Numbers.{leb-trans, leb-total, leb-anti}
 use Rattle.mesh.proofs.Laws.Link.Simplices.{sort-mem}
 
--- ---- numbers in order
+-- ---- rows
 
 eqRow-sym : (a b : List ℕ) → eqRow a b ≡ eqRow b a
 eqRow-sym a b =
