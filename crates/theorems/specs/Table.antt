@@ -3,26 +3,28 @@
 -- fin SIGN m (negsuc k), which is m / 2 ^ (k + 1). Assumes nothing.
 use mathlib.Core.Path.{_≡_, refl}
 use mathlib.Core.Bool.{Bool, true, false}
-use mathlib.Core.List.{List, [], _∷_}
+use mathlib.Core.List.{List, [], _∷_, map}
 use Prim.Native.Nat.{ℕ}
 use lib.IntN.{ℤ, pos, negsuc}
 use lib.ListN.{length}
 use lib.Ieee.{Float, fin, binary64, toBits, lt, le, eq, add, sub, mul, div, neg}
 use Rattle.geometry.specs.declared.point.Point.{Point}
-use Rattle.geometry.specs.Float.{zero64, one64}
+use Rattle.geometry.specs.Float.{zero64, one64, total, totalFrom}
 use Rattle.geometry.specs.Root.{sqrt}
 use Rattle.geometry.specs.Point.{determinant}
-use Rattle.geometry.specs.Score.{squaredEdges, score, bad}
+use Rattle.geometry.specs.Score.{squaredEdge, squaredEdges, score, bad, lowest, lowestFrom}
 use Rattle.geometry.specs.declared.bounds.Options.{Options}
 use Rattle.geometry.specs.Bounds.{canonical}
 use Rattle.geometry.specs.Rank.{nearestAway, rankValue, rank}
-use Rattle.mesh.specs.Element.{tet, triple, sortFirst, sortLast, keyOf, parityOf}
+use Rattle.mesh.specs.Element.{tet, triple, verticesOf, sortFirst, sortLast, keyOf, parityOf}
 use Rattle.mesh.specs.Boundary.{leTriple, allFaces, singles, boundaryOf, keyNumber, firstNumber, boundaryNumber}
 use Rattle.mesh.specs.declared.element.Tet.{Tet}
 use Rattle.mesh.specs.Intake.{Given, allDifferent, intake}
-use Rattle.mesh.specs.Sort.{insert, sort}
+use Rattle.mesh.specs.Sort.{insert, sort, unique, uniqueAfter}
 use Rattle.mesh.specs.Complex.{faces, alternating}
-use Rattle.mesh.specs.Moves.{flip23}
+use Rattle.mesh.specs.Group.{numbers}
+use Rattle.repair.specs.Mesh.{Mesh, made, allEdges}
+use Rattle.repair.specs.Flip.{live, emptied, besides, listedFaces, listedEdges, replace, tryFace, tryEdge, tryFaces, tryEdges, flips, sameTriples, endNumber, flip}
 
 abbrev at : Float → Float → Float → Point
 at x y z = record { x = x; y = y; z = z }
@@ -59,6 +61,16 @@ unit-box periodic = record {
   passes = 1;
 }
 
+-- the face 000, (128, 0, 0), (0, 128, 0), and (32, 32, 7) and (32, 32, -7) close to it
+abbrev flat-points : List Point
+flat-points =
+    p000
+    ∷ at (fin false 1 (pos 7)) zero64 zero64
+    ∷ at zero64 (fin false 1 (pos 7)) zero64
+    ∷ at (fin false 1 (pos 5)) (fin false 1 (pos 5)) (fin false 7 (pos 0))
+    ∷ at (fin false 1 (pos 5)) (fin false 1 (pos 5)) (fin true 7 (pos 0))
+    ∷ []
+
 -- M4's points, with the box 0 to 1, no field, buffers exactly long enough, and one element
 abbrev one-element : Tet → Given
 one-element t = record {
@@ -72,12 +84,28 @@ one-element t = record {
   elements = t ∷ [];
 }
 
--- two elements on the face 0 1 2, and after two-to-three
-abbrev two-elements : List (List ℕ)
-two-elements = (0 ∷ 1 ∷ 2 ∷ 3 ∷ []) ∷ (0 ∷ 2 ∷ 1 ∷ 4 ∷ []) ∷ []
+-- two elements on the face 0 1 2, and the three around the edge 3 4 that `flip` makes of them
+abbrev two-elements : List Tet
+two-elements = tet 0 1 2 3 ∷ tet 0 2 1 4 ∷ []
 
-abbrev three-elements : List (List ℕ)
-three-elements = flip23 3 4 0 1 2 two-elements
+abbrev three-elements : List Tet
+three-elements = tet 3 4 1 0 ∷ tet 3 4 2 1 ∷ tet 3 4 0 2 ∷ []
+
+-- a mesh of these points and some elements, with its boundary as the surface
+abbrev mesh-of : List Tet → Mesh
+mesh-of ts = record {
+  parameters = flat-points;
+  points = flat-points;
+  masks = 0 ∷ 0 ∷ 0 ∷ 0 ∷ 0 ∷ [];
+  elements = ts;
+  surface = boundaryOf ts;
+}
+
+-- the vertices, edges, triangles and elements of a mesh of five vertices whose alternating count is 1
+abbrev Counts : List Tet → ℕ → ℕ → ℕ → ℕ → Type 0
+Counts ts v e f n =
+    let es = map verticesOf ts in
+    (faces 1 5 es ≡ v) × (faces 2 5 es ≡ e) × (faces 3 5 es ≡ f) × (length ts ≡ n) × (alternating 5 es ≡ pos 1)
 
 pub record Table : Type 0 where
   -- M1 root of 2 has bits 3FF6A09E667F3BCD
@@ -103,9 +131,15 @@ pub record Table : Type 0 where
   -- M11 one element 0 1 2 3: surface 013, 021, 032, 123
   pub M11 : boundaryOf (tet 0 1 2 3 ∷ []) ≡ triple 0 1 3 ∷ triple 0 2 1 ∷ triple 0 3 2 ∷ triple 1 2 3 ∷ []
   -- M12 two elements on a face: 5−9+7−2 = 1
-  pub M12-two : (faces 1 5 two-elements ≡ 5) × (faces 2 5 two-elements ≡ 9) × (faces 3 5 two-elements ≡ 7) × (length two-elements ≡ 2) × (alternating 5 two-elements ≡ pos 1)
-  -- after two-to-three 5−10+9−3 = 1
-  pub M12-three : (faces 1 5 three-elements ≡ 5) × (faces 2 5 three-elements ≡ 10) × (faces 3 5 three-elements ≡ 9) × (length three-elements ≡ 3) × (alternating 5 three-elements ≡ pos 1)
+  pub M12-two : Counts two-elements 5 9 7 2
+  -- after two-to-three 5−10+9−3 = 1: `flip` makes one flip of the two
+  pub M12-flip : flip (mesh-of two-elements) ≡ made 1 (mesh-of three-elements)
+  pub M12-three : Counts three-elements 5 10 9 3
+
+-- `flip` on the two elements
+flip-is : flip (mesh-of two-elements) ≡ made 1 (mesh-of three-elements)
+unfolding flip flips tryFaces tryFace tryEdges tryEdge replace live emptied besides listedFaces listedEdges sameTriples endNumber allEdges numbers lowest lowestFrom total totalFrom unique uniqueAfter insert sort sqrt determinant squaredEdges squaredEdge score add sub mul div neg lt eq le sortFirst sortLast keyOf parityOf leTriple allFaces singles boundaryOf keyNumber firstNumber boundaryNumber
+flip-is = refl
 
 pub table : Table
 unfolding canonical nearestAway rankValue rank sqrt toBits determinant squaredEdges score add sub mul div neg lt eq sortFirst sortLast keyOf parityOf leTriple allFaces singles boundaryOf keyNumber firstNumber boundaryNumber allDifferent intake le insert sort faces
@@ -122,5 +156,6 @@ table = record {
   M10 = (refl, refl, refl);
   M11 = refl;
   M12-two = (refl, refl, refl, refl, refl);
+  M12-flip = flip-is;
   M12-three = (refl, refl, refl, refl, refl);
 }
