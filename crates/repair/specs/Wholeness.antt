@@ -17,7 +17,8 @@ use Rattle.mesh.specs.Element.{verticesOf, keyOf, parityOf}
 use Rattle.mesh.specs.Boundary.{allFaces, withKey}
 use Rattle.mesh.specs.Group.{rankOf}
 use Rattle.mesh.specs.declared.intake.Lengths.{Lengths}
-use Rattle.mesh.specs.Intake.{intake}
+use Rattle.mesh.specs.Tests.{every}
+use Rattle.mesh.specs.Intake.{wellNumbered, allDifferent, intake}
 use Rattle.repair.specs.Mesh.{measure, determinantOf, scoreOf, lowestOf}
 use Rattle.repair.specs.Step.{State, Call, Pass, meshOf, given, numberOf, step, run, improveCounts}
 
@@ -72,6 +73,10 @@ abbrev pub floorOf : State → Float
 floorOf s = smaller tenth (lowestOf (measure (meshOf s .points)) (meshOf s .elements))
 
 pub record Whole (start end : State) (count : ℕ) : Type 0 where
+  -- the table's 13 and 14 do not apply: each element has four different vertices below the vertex count, and no two have the same four. So
+  -- `alternating` counts every vertex, edge and triangle that an element uses, and each element once
+  pub numbered : every (wellNumbered (end .sizes .vertices)) (meshOf end .elements) ≡ true
+  pub different : allDifferent (meshOf end .elements) ≡ true
   -- "equals that number at the start"
   pub alternates : alternatingOf end ≡ alternatingOf start
   -- "every triangle lies in one element, or in two with opposite parity"

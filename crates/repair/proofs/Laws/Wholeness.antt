@@ -1,6 +1,6 @@
--- Demand 3, for every list of calls: `wholeness` proves the statement of specs/Wholeness.antt. Each pass keeps the four parts
+-- Demand 3, for every list of calls: `wholeness` proves the statement of specs/Wholeness.antt. Each pass keeps its parts
 -- (Laws/Improve, Laws/Smooth, Laws/Flip), and a list of calls is one after the other (Laws/Improve/Calls). Assumes nothing.
-use mathlib.Core.Path.{_≡_, sym, subst}
+use mathlib.Core.Path.{_≡_, sym, subst, subst₂}
 use mathlib.Core.Bool.{Bool, true, _&&_}
 use mathlib.Core.List.{map, List·Memᴰ}
 use Prim.Native.Nat.{ℕ, _≤_}
@@ -12,7 +12,8 @@ use Rattle.geometry.specs.Literals.{tenth}
 use Rattle.geometry.specs.Units.{unitsOf}
 use Rattle.mesh.specs.declared.element.Tet.{Tet}
 use Rattle.mesh.specs.declared.element.Triple.{Triple}
-use Rattle.mesh.specs.Element.{keyOf}
+use Rattle.mesh.specs.Complex.{Proper}
+use Rattle.mesh.specs.Element.{verticesOf, keyOf}
 use Rattle.mesh.specs.Boundary.{allFaces, withKey}
 use Rattle.mesh.specs.Intake.{sizedPoint, boundsIn, optionsIn, intake}
 use Rattle.mesh.proofs.Laws.Bools.{and-left, and-right}
@@ -53,6 +54,7 @@ smooth-whole c s count n h r =
     let q = corners (c .options) (p .options) in
     let k : Smoothed m n = smooth-keeps (c .options) (q .0) (q .1) (take (c .count) (c .fields)) (c .regions) m near (S .upright) count n r in
     committed-whole s n 0 (record {
+      proper = subst₂ (λ v ts. Proper v (map verticesOf ts)) (sym (k .vertices)) (sym (k .elements)) (S .proper);
       alternates = smooth-alternates m n k;
       triangles = subst (λ ts. (f : Triple) → List·Memᴰ f (allFaces ts) → OneOrTwo (withKey (keyOf f) (allFaces ts))) (sym (k .elements)) (boundary-triangles (m .elements) (p .boundary));
       determinants = k .determinants;
@@ -68,6 +70,7 @@ flip-whole c s count n h r =
     let near : AllNear (m .points) = points-near (m .points) (S .sized) in
     let k : Flipped m n count = flip-keeps m near (S .proper) (p .boundary) (S .upright) count n r in
     committed-whole s n 0 (record {
+      proper = k .proper;
       alternates = k .alternates;
       triangles = k .triangles;
       determinants = k .determinants;

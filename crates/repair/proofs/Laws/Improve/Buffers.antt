@@ -15,13 +15,14 @@ use Rattle.mesh.specs.Complex.{alternating}
 use Rattle.mesh.specs.Element.{tets, verticesOf, keyOf}
 use Rattle.mesh.specs.Boundary.{allFaces, withKey}
 use Rattle.mesh.specs.declared.intake.Lengths.{Lengths}
-use Rattle.mesh.specs.Intake.{intake}
+use Rattle.mesh.specs.Tests.{every}
+use Rattle.mesh.specs.Intake.{wellNumbered, allDifferent, intake}
 use Rattle.repair.specs.Mesh.{Mesh, determinantOf, scoreOf}
 use Rattle.repair.specs.Step.{State, Call, triplesOf, meshOf, floatsOf, elementWords, tripleWords, committed, given}
 use Rattle.repair.specs.Wholeness.{OneOrTwo, Exact, Whole}
 use Rattle.repair.proofs.Laws.Improve.Scores.{Floor}
 use Rattle.repair.proofs.Laws.Improve.Keeps.{Sound, Keeps, floorUnits}
-use Rattle.repair.proofs.Laws.Improve.Intake.{intake-passed, passed-proper, passed-upright}
+use Rattle.repair.proofs.Laws.Improve.Intake.{intake-passed, passed-proper, passed-upright, proper-numbered, proper-different}
 use Rattle.mesh.proofs.Laws.Intake.Reads.{length-points}
 
 -- ---- put and read again
@@ -89,6 +90,8 @@ committed-whole s n count k =
     let P = committed-points n s in
     let E = committed-elements n s in
     record {
+      numbered = subst (λ ts. every (wellNumbered (length (n .points))) ts ≡ true) (sym E) (proper-numbered (length (n .points)) (n .elements) (k .proper));
+      different = subst (λ ts. allDifferent ts ≡ true) (sym E) (proper-different (length (n .points)) (n .elements) (k .proper));
       alternates =
           ap (λ ts. alternating (length (n .points)) (map verticesOf ts)) E
           ∙ (k .alternates

@@ -97,6 +97,8 @@ start-whole s p =
     let S = intake-sound (p .1) (p .0) s (p .2) in
     let q = intake-passed (given (p .1) (p .0) s) (p .2) in
     record {
+      numbered = q .numbered;
+      different = q .different;
       alternates = refl;
       triangles = boundary-triangles (meshOf s .elements) (q .boundary);
       determinants = S .upright;
@@ -115,6 +117,8 @@ whole-then s t u k j low W X =
     let between : Floor U k (floorOf t) =
     smaller-keeps (Floor U k) tenth (lowestOf (measure (meshOf t .points)) (meshOf t .elements)) (floor-of U k tenth low) (lowest-keeps (Floor U k) scores (floor-of U k one64 (le-trans low tenth-one)) each) in
     record {
+      numbered = X .numbered;
+      different = X .different;
       alternates = X .alternates ∙ W .alternates;
       triangles = X .triangles;
       determinants = X .determinants;

@@ -1,20 +1,20 @@
 -- What the answer 0 of intake means: each test of the table passed. So the elements are proper: four different vertices in range each, and
--- no two with the same four. Assumes nothing.
+-- no two with the same four; and proper elements pass these two tests again. Assumes nothing.
 use mathlib.Core.Path.{_≡_, refl, sym, subst}
 use mathlib.Core.Logic.{_≢_}
 use mathlib.Core.Bool.{Bool, true, false, not, cond, _&&_, _||_}
-use mathlib.Core.List.{List, [], _∷_, map, List·Memᴰ, Memᴰ·of-map}
-use Prim.Native.Nat.{ℕ}
+use mathlib.Core.List.{List, [], _∷_, map, List·Memᴰ, Memᴰ·of-map, Memᴰ·map}
+use Prim.Native.Nat.{ℕ, _<_}
 use native.Mathlib.Omega.{arith}
-use borrow.Author.Tests.{not-true, not-false}
+use borrow.Author.Tests.{not-true, not-false, lt-ltb}
 use Rattle.mesh.specs.declared.element.Tet.{Tet}
-use Rattle.mesh.specs.Complex.{IsElement, sub, Sub, Proper}
+use Rattle.mesh.specs.Complex.{IsElement, mem, sub, Sub, Nodup, Proper}
 use Rattle.mesh.specs.Tests.{every, nodup, under}
 use Rattle.mesh.specs.Element.{verticesOf}
 use Rattle.mesh.specs.Boundary.{boundaryNumber}
 use Rattle.mesh.specs.Intake.{Given, tooMany, tooShort, optionsIn, fieldsIn, sizedPoint, inBox, wellNumbered, sameVertices, allDifferent, upright, intake}
-use Rattle.mesh.proofs.Laws.Complex.Sets.{clash, and-fst, and-snd, sub-intro}
-use Rattle.mesh.proofs.Laws.Link.Members.{every-elim}
+use Rattle.mesh.proofs.Laws.Complex.Sets.{clash, and-fst, and-snd, mem-here, mem-there, sub-intro, sub-elim}
+use Rattle.mesh.proofs.Laws.Link.Members.{every-elim, every-intro}
 use Rattle.mesh.proofs.Laws.Complex.Tests.{nodup-sound, under-sound}
 
 pub record Passed (g : Given) : Type 0 where
@@ -112,3 +112,35 @@ passed-proper g p = proper-of (g .sizes .vertices) (g .elements) (p .numbered) (
 
 pub passed-upright : (g : Given) → Passed g → (t : Tet) → List·Memᴰ t (g .elements) → upright (g .points) t ≡ true
 passed-upright g p t m = every-elim (upright (g .points)) (g .elements) (p .standing) m
+
+-- ---- proper elements pass the tests again
+
+-- a list without a vertex twice
+nodup-of : (e : List ℕ) → Nodup e → nodup e ≡ true
+nodup-of [] h = refl
+nodup-of (x ∷ xs) h = rw (h .0) (nodup-of xs (h .1))
+
+-- all below n
+under-of : (n : ℕ) (e : List ℕ) → ((x : ℕ) → mem x e ≡ true → x < n) → under n e ≡ true
+under-of n [] h = refl
+under-of n (x ∷ xs) h = rw (lt-ltb x n (h x (mem-here x xs))) (under-of n xs (λ y m. h y (mem-there y x xs m)))
+
+-- 13
+pub proper-numbered : (n : ℕ) (ts : List Tet) → Proper n (map verticesOf ts) → every (wellNumbered n) ts ≡ true
+proper-numbered n [] h = refl
+proper-numbered n (t ∷ ts) h =
+    rw (under-of n (verticesOf t) (h .0 .below), nodup-of (verticesOf t) (h .0 .distinct)) (proper-numbered n ts (h .2))
+
+-- 14
+pub proper-different : (n : ℕ) (ts : List Tet) → Proper n (map verticesOf ts) → allDifferent ts ≡ true
+unfolding allDifferent
+proper-different n [] h = refl
+proper-different n (t ∷ ts) h = rw (every-intro (λ u. not (sameVertices t u)) ts other) (proper-different n ts (h .2))
+  where
+    other : (u : Tet) → List·Memᴰ u ts → not (sameVertices t u) ≡ true
+    other u m = by (sub (verticesOf t) (verticesOf u)) (sub (verticesOf u) (verticesOf t)) refl refl
+      where
+        by : (a b : Bool) → sub (verticesOf t) (verticesOf u) ≡ a → sub (verticesOf u) (verticesOf t) ≡ b → not (a && b) ≡ true
+        by false b p q = refl
+        by true false p q = refl
+        by true true p q = absurd (h .1 (verticesOf u) (Memᴰ·map verticesOf m) (sub-elim (verticesOf t) (verticesOf u) p) (sub-elim (verticesOf u) (verticesOf t) q))

@@ -50,6 +50,7 @@ floorUnits m = unitsOf (smaller tenth (lowestOf (measure (m .points)) (m .elemen
 
 -- what demand 3 says of the mesh n that a pass made of m, where it replaced `count` vertices
 pub record Keeps (m n : Mesh) (count : ℕ) : Type 0 where
+  pub proper : Proper (length (n .points)) (map verticesOf (n .elements))
   pub alternates : alternating (length (n .points)) (map verticesOf (n .elements)) ≡ alternating (length (m .points)) (map verticesOf (m .elements))
   pub triangles : (f : Triple) → List·Memᴰ f (allFaces (n .elements)) → OneOrTwo (withKey (keyOf f) (allFaces (n .elements)))
   pub determinants : (t : Tet) → List·Memᴰ t (n .elements) → lt zero64 (determinantOf (n .points) t) ≡ true
@@ -108,6 +109,13 @@ module _ (o : Options) (m : Mesh) (S : Sound m) (d : Distinct o (m .parameters))
       subst (λ k. Run k (map verticesOf (m .elements)) (length (uses (last o m .elements))) (map verticesOf (map (imageOf (placeOf (uses (last o m .elements)))) (last o m .elements)))) (S .counted)
       (then (last-kept .run) (renumber-step (size m) (last o m .elements)))
 
+  renumbered-proper : Proper (length (renumbered m (last o m .elements) .points)) (map verticesOf (renumbered m (last o m .elements) .elements))
+  unfolding renumbered
+  renumbered-proper =
+      let ts = last o m .elements in
+      let new = map verticesOf (map (imageOf (placeOf (uses ts))) ts) in
+      subst (λ k. Proper k new) (sym (length-map (uses ts) (pointAt (m .points)))) (run-keeps (length (m .points)) (map verticesOf (m .elements)) (S .proper) last-run .0)
+
   renumbered-keeps : endNumber (renumbered m (last o m .elements)) ≡ 0 → Keeps m (renumbered m (last o m .elements)) (length (last o m .replaced))
   unfolding renumbered
   renumbered-keeps e =
@@ -115,6 +123,7 @@ module _ (o : Options) (m : Mesh) (S : Sound m) (d : Distinct o (m .parameters))
       let place = imageOf (placeOf (uses ts)) in
       let new = map (pointAt (m .points)) (uses ts) in
       record {
+        proper = renumbered-proper;
         alternates = ap (λ k. alternating k (map verticesOf (map place ts))) (length-map (uses ts) (pointAt (m .points))) ∙ sym (run-alternating (length (m .points)) (map verticesOf (m .elements)) (S .proper) last-run);
         triangles = boundary-triangles (map place ts) (end-boundary (renumbered m ts) e);
         determinants = λ t i.
@@ -130,10 +139,9 @@ module _ (o : Options) (m : Mesh) (S : Sound m) (d : Distinct o (m .parameters))
   unfolding renumbered
   renumbered-sound e =
       let ts = last o m .elements in
-      let new = map verticesOf (map (imageOf (placeOf (uses ts))) ts) in
       record {
         counted = length-map (uses ts) (pointAt (m .parameters)) ∙ sym (length-map (uses ts) (pointAt (m .points)));
-        proper = subst (λ k. Proper k new) (sym (length-map (uses ts) (pointAt (m .points)))) (run-keeps (length (m .points)) (map verticesOf (m .elements)) (S .proper) last-run .0);
+        proper = renumbered-proper;
         sized = taken-sized (m .points) (S .sized) (uses ts);
         upright = renumbered-keeps e .determinants;
       }
