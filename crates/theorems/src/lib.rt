@@ -1,2 +1,2 @@
-// No code: specs/Table.antt has the worked examples M1 to M12 of document 01 as theorems about the
-// definitions of the crates below.
+// No code: specs/ states theorems about the definitions of the crates below, and proofs/ proves them.
+// The worked examples M1 to M12 of document 01; with which numbers `improve` and `flip` may end.
