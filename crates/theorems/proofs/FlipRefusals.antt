@@ -27,8 +27,8 @@ use Rattle.repair.proofs.Laws.Improve.Closed.{stays-closed}
 use Rattle.repair.proofs.Laws.Flip.Pass.{start-held}
 use Rattle.repair.proofs.Laws.Flip.End.{never-16}
 use Rattle.theorems.specs.FlipRefusals.{CountOr17, FlipRefusals, FlipRefusalsAlong}
-use Rattle.theorems.proofs.FlipTurns.{flips-boundary}
-use Rattle.theorems.proofs.FlipKeys.{same-keys, end-number}
+use Rattle.theorems.proofs.Flip.Turns.{flips-boundary}
+use Rattle.theorems.proofs.Flip.Keys.{same-keys, end-number}
 
 -- the elements at the end
 abbrev ended : Mesh → List Tet

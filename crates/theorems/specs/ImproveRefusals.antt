@@ -1,5 +1,5 @@
 -- How a call of `improve` may end where demand 3's premise holds of it (document 01, "Where each number is given"). `improve-refusals` of
--- proofs/Improve.antt proves it. Definitions only.
+-- proofs/ImproveRefusals.antt proves it. Definitions only.
 use mathlib.Core.Path.{_≡_}
 use mathlib.Core.Logic.{_⊎_}
 use Rattle.mesh.specs.Intake.{intake}

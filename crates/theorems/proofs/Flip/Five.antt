@@ -19,7 +19,7 @@ use Rattle.mesh.proofs.Laws.Link.Closed.{AtMostTwo}
 use Rattle.mesh.proofs.Laws.Link.Keys.{keep-cons}
 use Rattle.repair.proofs.Laws.Flip.Triangles.{star-cons, star-append}
 use Rattle.repair.proofs.Laws.Flip.Replace.{OneFlip, two-to-three, three-to-two}
-use Rattle.theorems.proofs.FlipStars.{star-same, star-replaced}
+use Rattle.theorems.proofs.Flip.Stars.{star-same, star-replaced}
 
 -- a triangle lies in exactly one element of the one list where it does in the other
 abbrev pub SameBoundary : List (List ℕ) → List (List ℕ) → Type 0

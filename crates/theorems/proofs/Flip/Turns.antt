@@ -34,7 +34,7 @@ use Rattle.repair.proofs.Laws.Flip.Replace.{Held, Chain, OneFlip, elementsOf}
 use Rattle.repair.proofs.Laws.Flip.Listed.{faces-rise, ends-differ}
 use Rattle.repair.proofs.Laws.Flip.Face.{face-held, face-aged}
 use Rattle.repair.proofs.Laws.Flip.Edge.{edge-held}
-use Rattle.theorems.proofs.FlipFive.{SameBoundary, flip-boundary}
+use Rattle.theorems.proofs.Flip.Five.{SameBoundary, flip-boundary}
 
 -- ---- one flip or none
 

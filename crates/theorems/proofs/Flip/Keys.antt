@@ -29,7 +29,7 @@ use Rattle.repair.specs.Wholeness.{single, IsBoundary}
 use Rattle.repair.proofs.Laws.Flip.Listed.{keys-rise}
 use Rattle.repair.proofs.Laws.Improve.Closed.{boundary-closed}
 use Rattle.theorems.specs.FlipRefusals.{CountOr17}
-use Rattle.theorems.proofs.FlipFive.{SameBoundary}
+use Rattle.theorems.proofs.Flip.Five.{SameBoundary}
 
 -- ---- how often a key stands in the surface
 
