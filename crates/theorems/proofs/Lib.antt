@@ -3,3 +3,4 @@ pub mod Collapse
 pub mod ImproveRefusals
 pub mod Flip
 pub mod FlipRefusals
+pub mod Manifold

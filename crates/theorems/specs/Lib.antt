@@ -1,3 +1,4 @@
 pub mod Table
 pub mod ImproveRefusals
 pub mod FlipRefusals
+pub mod Manifold
