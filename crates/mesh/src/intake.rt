@@ -9,6 +9,7 @@ use crate::rows::sort_rows;
 use crate::vertex::point_at;
 use crate::vertex::tet_at;
 use crate::words::clear;
+use crate::words::clear_floats;
 use crate::words::copy_over;
 use geometry::bounds::Bounds;
 use geometry::bounds::Options;
@@ -28,7 +29,7 @@ ghost use Rattle.mesh.specs.Intake.{tooMany, tooShort, sized, sizedPoint
 ghost use Rattle.mesh.specs.Rows.{rows, flat, leRow};
 ghost use Rattle.mesh.specs.Sort.{insert, sort};
 ghost use Rattle.mesh.specs.Tests.{every, nodup, under};
-ghost use Rattle.mesh.specs.Words.{zeroWords, pointsOf};
+ghost use Rattle.mesh.specs.Words.{zeroWords, zeroFloats, pointsOf};
 
 // How many vertices, elements and surface triples a mesh has.
 pub struct Sizes {
@@ -555,8 +556,9 @@ fn mesh_number(
     0
 }
 
-// The first of the numbers 10 to 15 whose condition applies, and 0 where none does. The work is all zeros afterwards.
-pub fn intake_numbers(
+// The first of the numbers 10 to 15 whose condition applies, and 0 where none does. The work is all zeros afterwards; of the floats only
+// their length counts.
+fn intake_numbers(
     sizes: Sizes,
     o: Options,
     count: u32,
@@ -615,8 +617,8 @@ fn boundary_number(elements: &[u32], n: usize, work: &mut [u32]) -> u32
     refusal_of(found)
 }
 
-// Intake: the first number of the table whose condition applies, 10 to 17, and 0 where none does. The work may hold anything before,
-// and is all zeros afterwards.
+// Intake: the first number of the table whose condition applies, 10 to 17, and 0 where none does. Both work slices may hold anything
+// before, and are all zeros afterwards.
 pub fn intake(
     sizes: Sizes,
     o: Options,
@@ -628,10 +630,11 @@ pub fn intake(
     elements: &[u32],
     surface: &[u32],
     work: &mut [u32],
-    floats: &[f64],
+    floats: &mut [f64],
 ) -> u32
     ensures { λ r. ⌜ r ≡ intake (givenOf sizes o count fields (now (parameters .entry)) (now (points .entry)) (now (masks .entry)) (now (elements .entry)) (now (surface .entry)) (now (work .entry)) (now (floats .entry))) ⌝ }
     ensures { λ _. ⌜ now (work .exit) ≡ zeroWords (length (now (work .entry))) ⌝ }
+    ensures { λ _. ⌜ now (floats .exit) ≡ zeroFloats (length (now (floats .entry))) ⌝ }
 {
     let number = intake_numbers(
         sizes,
@@ -646,6 +649,7 @@ pub fn intake(
         work,
         floats,
     );
+    clear_floats(floats);
     if number != 0 {
         return number;
     }

@@ -1,4 +1,4 @@
--- `mesh::intake::intake` meets its contract: the numbers 10 to 15, then the boundary's. Assumes nothing.
+-- `mesh::intake::intake` meets its contract: the numbers 10 to 15, then the boundary's; the floats are cleared between. Assumes nothing.
 use mathlib.Core.Path.{sym, ap, _∙_}
 use native.Mathlib.Omega.{arith}
 use Rattle.mesh.specs.Words.{zeroWords}
@@ -10,28 +10,52 @@ use Rattle.mesh.proofs.intake.intake.Tie as tie
 intake-numbers-requires : tie.Need-intake-numbers-requires
 intake-numbers-requires c κs = search needs
 
+clear-floats-requires : tie.Need-clear-floats-requires
+clear-floats-requires c κs = search needs
+
 same-length : tie.Need-same-length
 same-length c = search needs
-
-returns : tie.Need-returns
-returns c = (intake-stop (c .before .before .before .before .before .before .before .before .before .before .before .before .args .sizes) (c .before .before .before .before .before .before .before .before .before .before .before .before .args .o) (c .before .before .before .before .before .before .before .before .before .before .before .before .args .count) (c .before .before .before .before .before .before .before .before .before .before .before .before .args .fields) (c .before .before .before .before .before .before .before .before .before .before .before .before .args .parameters .now) (c .before .before .before .before .before .before .before .before .before .before .before .before .args .points .now) (c .before .before .before .before .before .before .before .before .before .before .before .before .args .masks .now) (c .before .before .before .before .before .before .before .before .before .before .before .before .args .elements .now) (c .before .before .before .before .before .before .before .before .before .before .before .before .args .surface .now) (c .before .before .before .before .before .before .before .before .before .before .before .before .args .work .now) (c .before .before .before .before .before .before .before .before .before .before .before .before .args .floats .now) (c .before .before .before .intake-numbers .result) (c .before .before .before .intake-numbers .ensures .0) (c .if1 .taken), c .before .before .before .intake-numbers .ensures .1)
-
-boundary-number-requires : tie.Need-boundary-number-requires
-boundary-number-requires c κs = let r = boundary-room (c .before .before .before .before .before .before .before .before .before .before .before .before .before .args .sizes) (c .before .before .before .before .before .before .before .before .before .before .before .before .before .args .o) (c .before .before .before .before .before .before .before .before .before .before .before .before .before .args .count) (c .before .before .before .before .before .before .before .before .before .before .before .before .before .args .fields) (c .before .before .before .before .before .before .before .before .before .before .before .before .before .args .parameters .now) (c .before .before .before .before .before .before .before .before .before .before .before .before .before .args .points .now) (c .before .before .before .before .before .before .before .before .before .before .before .before .before .args .masks .now) (c .before .before .before .before .before .before .before .before .before .before .before .before .before .args .elements .now) (c .before .before .before .before .before .before .before .before .before .before .before .before .before .args .surface .now) (c .before .before .before .before .before .before .before .before .before .before .before .before .before .args .work .now) (c .before .before .before .before .before .before .before .before .before .before .before .before .before .args .floats .now) (c .before .before .before .before .intake-numbers .result) (c .before .before .before .before .intake-numbers .ensures .0) (c .before .if1 .left) in ((r .0, r .1, omega (arith, r .2, c .before .before .before .before .intake-numbers .kept .1 .1 .1 .1 .1 .1 .1 .1 .1 .0)), c .before .before .before .before .intake-numbers .ensures .1 ∙ ap zeroWords (sym (c .before .before .before .before .intake-numbers .kept .1 .1 .1 .1 .1 .1 .1 .1 .1 .0)))
 
 same-length-2 : tie.Need-same-length-2
 same-length-2 c = search needs
 
+returns : tie.Need-returns
+returns c =
+    let a = (c .before .before .before .before .before .before .before .before .before .before .before .before .before .before .before .before .before .args) in
+    let n = (c .before .before .before .before .before .before .before .intake-numbers) in
+    (intake-stop (a .sizes) (a .o) (a .count) (a .fields) (a .parameters .now) (a .points .now) (a .masks .now) (a .elements .now) (a .surface .now) (a .work .now) (a .floats .now) (n .result) (n .ensures .0) (c .if1 .taken), (n .ensures .1, c .before .before .before .clear-floats .ensures))
+
+boundary-number-requires : tie.Need-boundary-number-requires
+boundary-number-requires c κs =
+    let a = (c .before .before .before .before .before .before .before .before .before .before .before .before .before .before .before .before .before .before .args) in
+    let n = (c .before .before .before .before .before .before .before .before .intake-numbers) in
+    let l = n .kept .1 .1 .1 .1 .1 .1 .1 .1 .1 .0 in
+    let r = boundary-room (a .sizes) (a .o) (a .count) (a .fields) (a .parameters .now) (a .points .now) (a .masks .now) (a .elements .now) (a .surface .now) (a .work .now) (a .floats .now) (n .result) (n .ensures .0) (c .before .if1 .left) in
+    ((r .0, r .1, omega (arith, r .2, l)), n .ensures .1 ∙ ap zeroWords (sym l))
+
+same-length-3 : tie.Need-same-length-3
+same-length-3 c = search needs
+
+same-length-4 : tie.Need-same-length-4
+same-length-4 c = search needs
+
 returns-2 : tie.Need-returns-2
-returns-2 c = (intake-go (c .before .before .before .before .before .before .before .before .before .before .before .before .before .before .before .before .args .sizes) (c .before .before .before .before .before .before .before .before .before .before .before .before .before .before .before .before .args .o) (c .before .before .before .before .before .before .before .before .before .before .before .before .before .before .before .before .args .count) (c .before .before .before .before .before .before .before .before .before .before .before .before .before .before .before .before .args .fields) (c .before .before .before .before .before .before .before .before .before .before .before .before .before .before .before .before .args .parameters .now) (c .before .before .before .before .before .before .before .before .before .before .before .before .before .before .before .before .args .points .now) (c .before .before .before .before .before .before .before .before .before .before .before .before .before .before .before .before .args .masks .now) (c .before .before .before .before .before .before .before .before .before .before .before .before .before .before .before .before .args .elements .now) (c .before .before .before .before .before .before .before .before .before .before .before .before .before .before .before .before .args .surface .now) (c .before .before .before .before .before .before .before .before .before .before .before .before .before .before .before .before .args .work .now) (c .before .before .before .before .before .before .before .before .before .before .before .before .before .before .before .before .args .floats .now) (c .before .before .before .before .before .before .before .intake-numbers .result) (c .before .before .before .before .before .before .before .intake-numbers .ensures .0) (c .before .before .before .before .if1 .left) (c .before .before .boundary-number .result) (c .before .before .boundary-number .ensures .0), c .before .before .boundary-number .ensures .1 ∙ ap zeroWords (c .before .before .before .before .before .before .before .intake-numbers .kept .1 .1 .1 .1 .1 .1 .1 .1 .1 .0))
+returns-2 c =
+    let a = (c .before .before .before .before .before .before .before .before .before .before .before .before .before .before .before .before .before .before .before .before .before .args) in
+    let n = (c .before .before .before .before .before .before .before .before .before .before .before .intake-numbers) in
+    let b = (c .before .before .boundary-number) in
+    (intake-go (a .sizes) (a .o) (a .count) (a .fields) (a .parameters .now) (a .points .now) (a .masks .now) (a .elements .now) (a .surface .now) (a .work .now) (a .floats .now) (n .result) (n .ensures .0) (c .before .before .before .before .if1 .left) (b .result) (b .ensures .0), (b .ensures .1 ∙ ap zeroWords (n .kept .1 .1 .1 .1 .1 .1 .1 .1 .1 .0), c .before .before .before .before .before .before .before .clear-floats .ensures))
 
 pub intake-spec : {M : Type 1} → statement M
 intake-spec =
     tie.close
     (tie.spec
     intake-numbers-requires
+    clear-floats-requires
     same-length
+    same-length-2
     returns
     boundary-number-requires
-    same-length-2
+    same-length-3
+    same-length-4
     returns-2)
