@@ -64,12 +64,19 @@ pub record Filled : Type 0 where
   pub answer : Outcome
   pub area : List ℕ
 
--- the elements as they were, behind them the surface, and behind that zeros; the area as it was where it is too small
+-- the area after the call: the elements as they were, behind them the surface, and behind that zeros; all zeros where a key is bad
+unfoldable pub areaAfter : ℕ → List ℕ → List ℕ
+areaAfter n s =
+    cond (eqb (boundaryNumber (tets n s)) 0)
+    (take (4 * n) s ++ (surfaceWords (tets n s) ++ zeroWords (length s - (4 * n + length (surfaceWords (tets n s))))))
+    (zeroWords (length s))
+
+-- the boundary of n elements at the front of an area; 10 and all zeros where the area is too small or the elements are too many
 unfoldable pub boundaryIn : ℕ → List ℕ → Filled
 boundaryIn n s =
     cond (areaFits n (length s))
-    (record { answer = answerOf (tets n s); area = take (4 * n) s ++ (surfaceWords (tets n s) ++ zeroWords (length s - (4 * n + length (surfaceWords (tets n s))))) })
-    (record { answer = Refused 10; area = s })
+    (record { answer = answerOf (tets n s); area = areaAfter n s })
+    (record { answer = Refused 10; area = zeroWords (length s) })
 
 -- ---- with buffers
 

@@ -17,22 +17,12 @@ ghost use lib.ListN.{length, drop};
 ghost use lib.Seq.{paste};
 ghost use Rattle.mesh.specs.Element.{cornersOf};
 ghost use Rattle.mesh.specs.Rows.{rows};
-ghost use Rattle.mesh.specs.Surface.{triplesOf, areaFits, callFits, Filled, boundaryIn, Call, boundaryCall, kindAt, FaceArea, Gathered};
+ghost use Rattle.mesh.specs.Surface.{areaFits, callFits, Filled, boundaryIn, Call, boundaryCall, kindAt, FaceArea, Gathered};
 
 // How many surface triples, or the number of the refusal.
 pub enum Outcome {
     Surface(usize),
     Refused(u32),
-}
-
-// How many surface triples, none on a refusal.
-pub(crate) fn triples_of(o: Outcome) -> usize
-    ensures { λ r. ⌜ r ≡ triplesOf o ⌝ }
-{
-    match o {
-        Outcome::Surface(c) => c,
-        Outcome::Refused(_) => 0,
-    }
 }
 
 // Whether n is at most 65,536 and an area for n elements fits into m words.
@@ -126,22 +116,28 @@ fn gather(area: &mut [u32], n: usize) -> Outcome
 }
 
 // The boundary of the n elements at the front of the area. The sorted triples stand behind the elements, and behind them all is 0.
-// 10 where the area is too small or n above 65,536, and then the area is as it was; else 16 or 17 by the first bad key, and
-// then all behind the elements is 0.
+// 10 where the area is too small or n above 65,536, else 16 or 17 by the first bad key; after a number the whole area is 0.
 pub fn boundary_in(area: &mut [u32], n: usize) -> Outcome
     ensures { λ r. ⌜ _≡_ {A = Filled} (record { answer = r; area = now (area .exit) }) (boundaryIn n (now (area .entry))) ⌝ }
 {
     if !area_fits(n, area.len()) {
+        clear(area);
         return Outcome::Refused(10);
     }
     let m = 4 * n;
     sorted_faces(area, n);
-    let found = gather(area, n);
-    let c = triples_of(found);
-    sort_rows(&mut area[m..], c, 3);
-    let e = m + 3 * c;
-    clear(&mut area[e..]);
-    found
+    match gather(area, n) {
+        Outcome::Surface(c) => {
+            sort_rows(&mut area[m..], c, 3);
+            let e = m + 3 * c;
+            clear(&mut area[e..]);
+            Outcome::Surface(c)
+        }
+        Outcome::Refused(k) => {
+            clear(area);
+            Outcome::Refused(k)
+        }
+    }
 }
 
 // The boundary of n elements. Its sorted triples are written to the front of `surface`; on a refusal it stays as it was. 10 where
@@ -156,9 +152,12 @@ pub fn boundary(elements: &[u32], n: usize, surface: &mut [u32], work: &mut [u32
     }
     let m = 4 * n;
     copy_over(work, elements, m);
-    let found = boundary_in(work, n);
-    let c = triples_of(found);
-    copy_over(surface, &work[m..], 3 * c);
-    clear(work);
-    found
+    match boundary_in(work, n) {
+        Outcome::Surface(c) => {
+            copy_over(surface, &work[m..], 3 * c);
+            clear(work);
+            Outcome::Surface(c)
+        }
+        Outcome::Refused(k) => Outcome::Refused(k),
+    }
 }

@@ -25,7 +25,7 @@ ghost use lib.ListN.{length, drop};
 ghost use lib.Seq.{paste};
 ghost use Rattle.mesh.specs.Boundary.{boundaryNumber};
 ghost use Rattle.mesh.specs.Element.{tets, cornersOf, verticesOf};
-ghost use Rattle.mesh.specs.Intake.{tooMany, tooShort, sized, sizedPoint, sizedField, pointBelow, boundsIn, cellsIn, optionsIn, fieldsIn, inBox, wellNumbered, vertexRow, noneTwice, uprightIn, settingsNumber, meshNumber, givenOf, intakeNumbers, refusalOf, intake};
+ghost use Rattle.mesh.specs.Intake.{tooMany, tooShort, sized, sizedPoint, sizedField, pointBelow, boundsIn, cellsIn, optionsIn, fieldsIn, inBox, wellNumbered, vertexRow, noneTwice, uprightIn, settingsNumber, meshNumber, givenOf, intakeNumbers, intake};
 ghost use Rattle.mesh.specs.Rows.{rows, flat, leRow};
 ghost use Rattle.mesh.specs.Sort.{insert, sort};
 ghost use Rattle.mesh.specs.Tests.{every, nodup, under};
@@ -591,16 +591,6 @@ fn intake_numbers(
     mesh_number(sizes, o.bounds, parameters, points, elements, work)
 }
 
-// The number of a refusal, and 0 for a surface.
-fn refusal_of(o: Outcome) -> u32
-    ensures { λ r. ⌜ r ≡ refusalOf o ⌝ }
-{
-    match o {
-        Outcome::Surface(_) => 0,
-        Outcome::Refused(k) => k,
-    }
-}
-
 // 16 or 17 by the first bad key of n elements, and else 0. The first 36 n words of the work are the area of the boundary; the work is
 // all zeros before and after.
 fn boundary_number(elements: &[u32], n: usize, work: &mut [u32]) -> u32
@@ -612,9 +602,13 @@ fn boundary_number(elements: &[u32], n: usize, work: &mut [u32]) -> u32
     let m = 4 * n;
     let e = 36 * n;
     copy_over(work, elements, m);
-    let found = boundary_in(&mut work[0..e], n);
-    clear(&mut work[0..e]);
-    refusal_of(found)
+    match boundary_in(&mut work[0..e], n) {
+        Outcome::Surface(_) => {
+            clear(&mut work[0..e]);
+            0
+        }
+        Outcome::Refused(k) => k,
+    }
 }
 
 // Intake: the first number of the table whose condition applies, 10 to 17, and 0 where none does. Both work slices may hold anything

@@ -1,13 +1,14 @@
 -- `boundary_in` and `boundary`, step by step: what each call leaves of the area, and that the whole is the definition. Assumes nothing.
 use mathlib.Core.Path.{_≡_, refl, sym, ap, ap₂, _∙_}
+use mathlib.Core.Logic.{inl, inr}
 use mathlib.Core.Bool.{Bool, true, false, cond}
 use mathlib.Core.List.{List, [], _∷_, _++_, map, append-assoc, append-nil}
 use Prim.Native.Nat.{ℕ, zero, suc, _+_, _-_, _*_, _≤_, _<_}
 use native.Mathlib.Omega.{arith}
 use lib.Dec.{leb, ltb, eqb}
-use lib.ListN.{length, take, drop, getD, replicate, length-append, length-drop}
+use lib.ListN.{length, take, drop, getD, replicate, length-append, length-drop, length-replicate, replicate-append-replicate}
 use lib.Seq.{take-at, drop-at, take-all, take-take, take-add, length-take-le}
-use borrow.Author.Tests.{le-leb, leb-true, lt-ltb, ne-eqb}
+use borrow.Author.Tests.{le-leb, leb-true, lt-ltb, eq-eqb, ne-eqb, eqb-true}
 use borrow.Rule.Slice.PartMut.{midOf, putMid}
 use Rattle.mesh.specs.declared.element.Tet.{Tet}
 use Rattle.mesh.specs.declared.element.Triple.{Triple}
@@ -18,9 +19,10 @@ use Rattle.mesh.specs.Sort.{sort}
 use Rattle.mesh.specs.Rows.{rows, flat, leRow, fitRows, sortedArea}
 use Rattle.mesh.specs.Element.{tets, cornersOf}
 use Rattle.mesh.specs.Boundary.{leTriple, boundaryNumber, boundaryOf}
-use Rattle.mesh.specs.Surface.{answer, triplesOf, answerOf, surfaceWords, areaFits, Filled, boundaryIn, faceRows, faceArea, FaceArea, gathered, Gathered}
+use Rattle.mesh.specs.Surface.{answer, triplesOf, answerOf, surfaceWords, areaFits, Filled, areaAfter, boundaryIn, faceRows, faceArea, FaceArea, gathered, Gathered}
 use Rattle.mesh.specs.Faces.{FaceRoom, SortedFaces}
 use Rattle.mesh.proofs.Laws.Bools.{and-intro, and-left, and-right}
+use Rattle.mesh.proofs.Laws.Complex.Sets.{split}
 use Rattle.mesh.proofs.Laws.Rows.{Shape, none, more, rows-flat, rows-words}
 use Rattle.mesh.proofs.Laws.Areas.{area-is, length-sorted}
 use Rattle.mesh.proofs.Laws.Boundary.Order.{sort-corners}
@@ -49,13 +51,36 @@ answer-bad : (k x : ℕ) → triplesOf (answer (suc k) x) ≡ 0
 unfolding answer
 answer-bad k x = ap (λ (t : Bool). triplesOf (cond t (Surface x) (Refused (suc k)))) (ne-eqb (suc k) 0 (λ e. omega (arith, e)))
 
+-- a surface: no number, and so many triples
+pub taken-zero : (e n c : ℕ) → Surface c ≡ answer e n → (e ≡ 0) × (c ≡ n)
+unfolding answer
+taken-zero e n c h =
+    elim (split (eqb e 0)) [
+      | inl q ↦ (eqb-true e 0 q, let g : Surface c ≡ Surface n = h ∙ rw q refl in cc)
+      | inr q ↦ absurd (let g : Surface c ≡ Refused e = h ∙ rw q refl in let z : _≡_ {A = ℕ} 0 1 = cc in omega arith)
+    ]
+
+-- a refusal: its number
+pub refused-is : (e n c : ℕ) → Refused c ≡ answer e n → (eqb e 0 ≡ false) × (c ≡ e)
+unfolding answer
+refused-is e n c h =
+    elim (split (eqb e 0)) [
+      | inl q ↦ absurd (let g : Refused c ≡ Surface n = h ∙ rw q refl in let z : _≡_ {A = ℕ} 0 1 = cc in omega arith)
+      | inr q ↦ (q, let g : Refused c ≡ Refused e = h ∙ rw q refl in cc)
+    ]
+
 words-good : (ts : List Tet) → boundaryNumber ts ≡ 0 → surfaceWords ts ≡ flat (map cornersOf (boundaryOf ts))
 unfolding surfaceWords
 words-good ts e = rw e
 
-words-bad : (ts : List Tet) (k : ℕ) → boundaryNumber ts ≡ suc k → surfaceWords ts ≡ []
+words-bad : (ts : List Tet) → eqb (boundaryNumber ts) 0 ≡ false → surfaceWords ts ≡ []
 unfolding surfaceWords
-words-bad ts k e = rw (e, ne-eqb (suc k) 0 (λ z. omega (arith, z)))
+words-bad ts e = rw e
+
+-- a refusal has none
+pub refused-words : (ts : List Tet) (k : ℕ) → answerOf ts ≡ Refused k → surfaceWords ts ≡ []
+unfolding answerOf
+refused-words ts k h = words-bad ts (refused-is (boundaryNumber ts) (length (boundaryOf ts)) k (sym h) .0)
 
 -- three words a triple
 pub words-count : (ts : List Tet) → length (surfaceWords ts) ≡ 3 * triplesOf (answerOf ts)
@@ -66,7 +91,7 @@ words-count ts = go (boundaryNumber ts) refl
     go zero e =
         ap length (words-good ts e) ∙ length-triples (boundaryOf ts)
         ∙ ap (λ (i : ℕ). 3 * i) (sym (ap (λ (i : ℕ). triplesOf (answer i (length (boundaryOf ts)))) e ∙ answer-zero (length (boundaryOf ts))))
-    go (suc k) e = ap length (words-bad ts k e) ∙ ap (λ (i : ℕ). 3 * i) (sym (ap (λ (i : ℕ). triplesOf (answer i (length (boundaryOf ts)))) e ∙ answer-bad k (length (boundaryOf ts))))
+    go (suc k) e = ap length (words-bad ts (ap (λ (i : ℕ). eqb i 0) e ∙ ne-eqb (suc k) 0 (λ z. omega (arith, z)))) ∙ ap (λ (i : ℕ). 3 * i) (sym (ap (λ (i : ℕ). triplesOf (answer i (length (boundaryOf ts)))) e ∙ answer-bad k (length (boundaryOf ts))))
 
 -- at most four triples an element
 pub triples-few : (n : ℕ) (s : List ℕ) → triplesOf (answerOf (tets n s)) ≤ 4 * n
@@ -99,11 +124,72 @@ shape-corners : (l : List Triple) → Shape 3 (length l) (map cornersOf l)
 shape-corners [] = none
 shape-corners (f ∷ l) = more refl (shape-corners l)
 
+-- ---- the area afterwards
+
+area-good : (n : ℕ) (s : List ℕ) → eqb (boundaryNumber (tets n s)) 0 ≡ true
+    → areaAfter n s ≡ take (4 * n) s ++ (surfaceWords (tets n s) ++ zeroWords (length s - (4 * n + length (surfaceWords (tets n s)))))
+unfolding areaAfter
+area-good n s e = rw e
+
+area-bad : (n : ℕ) (s : List ℕ) → eqb (boundaryNumber (tets n s)) 0 ≡ false → areaAfter n s ≡ zeroWords (length s)
+unfolding areaAfter
+area-bad n s e = rw e
+
+-- the elements stand at its front where no key is bad
+pub area-front : (n : ℕ) (s : List ℕ) → 4 * n ≤ length s → eqb (boundaryNumber (tets n s)) 0 ≡ true → take (4 * n) (areaAfter n s) ≡ take (4 * n) s
+area-front n s h e =
+    ap (take (4 * n)) (area-good n s e)
+    ∙ take-at (take (4 * n) s) (surfaceWords (tets n s) ++ zeroWords (length s - (4 * n + length (surfaceWords (tets n s))))) (4 * n) (length-take-le (4 * n) s h)
+
+-- the surface stands behind them, and zeros behind the surface, which has no words where a key is bad
+pub area-behind : (n : ℕ) (s : List ℕ) → 4 * n ≤ length s
+    → drop (4 * n) (areaAfter n s) ≡ surfaceWords (tets n s) ++ zeroWords (length s - (4 * n + length (surfaceWords (tets n s))))
+area-behind n s h =
+    elim (split (eqb (boundaryNumber (tets n s)) 0)) [
+      | inl q ↦ ap (drop (4 * n)) (area-good n s q) ∙ drop-at (take (4 * n) s) (surfaceWords (tets n s) ++ zeroWords (length s - (4 * n + length (surfaceWords (tets n s))))) (4 * n) (length-take-le (4 * n) s h)
+      | inr q ↦ ap (drop (4 * n)) (area-bad n s q) ∙ zeros-behind (4 * n) (length s) h ∙ sym (rw (words-bad (tets n s) q) refl)
+    ]
+  where
+    zeros-behind : (i k : ℕ) → i ≤ k → drop i (zeroWords k) ≡ zeroWords (k - (i + 0))
+    zeros-behind i k l =
+        let j : k ≡ i + (k - (i + 0)) = omega arith in
+        ap (λ (u : ℕ). drop i (zeroWords u)) j ∙ ap (drop i) (sym (replicate-append-replicate i (k - (i + 0)) 0))
+        ∙ drop-at (zeroWords i) (zeroWords (k - (i + 0))) i (length-replicate i 0)
+
+-- it is as long as it was
+pub area-long : (n : ℕ) (s : List ℕ) → 36 * n ≤ length s → length (areaAfter n s) ≡ length s
+area-long n s h =
+    elim (split (eqb (boundaryNumber (tets n s)) 0)) [
+      | inl q ↦ ap length (area-good n s q) ∙ whole
+      | inr q ↦ ap length (area-bad n s q) ∙ length-replicate (length s) 0
+    ]
+  where
+    whole : length (take (4 * n) s ++ (surfaceWords (tets n s) ++ zeroWords (length s - (4 * n + length (surfaceWords (tets n s)))))) ≡ length s
+    whole =
+        let w = surfaceWords (tets n s) in
+        let z = zeroWords (length s - (4 * n + length w)) in
+        omega (arith, length-append (take (4 * n) s) (w ++ z), length-append w z, length-replicate {A = ℕ} (length s - (4 * n + length w)) 0, length-take-le (4 * n) s (omega arith), words-count (tets n s), triples-few n s)
+
 -- ---- `boundary_in`
 
-pub too-small : (n : ℕ) (s : List ℕ) → areaFits n (length s) ≡ false → _≡_ {A = Filled} (record { answer = Refused 10; area = s }) (boundaryIn n s)
+pub filled-is : (n : ℕ) (s : List ℕ) → areaFits n (length s) ≡ true → boundaryIn n s ≡ record { answer = answerOf (tets n s); area = areaAfter n s }
 unfolding boundaryIn
-too-small n s e = rw e
+filled-is n s e = rw e
+
+pub too-small : (n : ℕ) (s z : List ℕ) → areaFits n (length s) ≡ false → z ≡ zeroWords (length s) → _≡_ {A = Filled} (record { answer = Refused 10; area = z }) (boundaryIn n s)
+unfolding boundaryIn
+too-small n s z e f = rw (e, f)
+
+-- a number leaves zeros in the whole area
+pub refused-zeros : (n : ℕ) (s : List ℕ) {r : Outcome} {p : List ℕ} {k : ℕ} → _≡_ {A = Filled} (record { answer = r; area = p }) (boundaryIn n s) → r ≡ Refused k → p ≡ zeroWords (length s)
+unfolding answerOf
+refused-zeros n s {r} {p} {k} g h =
+    elim (split (areaFits n (length s))) [
+      | inl e ↦ let f = g ∙ filled-is n s e in
+          ap (λ (u : Filled). u .area) f
+          ∙ area-bad n s (refused-is (boundaryNumber (tets n s)) (length (boundaryOf (tets n s))) k (sym h ∙ ap (λ (u : Filled). u .answer) f) .0)
+      | inr e ↦ ap (λ (u : Filled). u .area) (g ∙ sym (too-small n s (zeroWords (length s)) e refl))
+    ]
 
 module _ (n : ℕ) (s₀ : List ℕ) (fits : areaFits n (length s₀) ≡ true) where
   room : 36 * n ≤ length s₀
@@ -150,68 +236,59 @@ module _ (n : ℕ) (s₀ : List ℕ) (fits : areaFits n (length s₀) ≡ true) 
           answered₂ ∙ answer-same (boundaryNumber (tets n s₂)) (length (gathered n s₂)) (length (boundaryOf (tets n s₂))) (area-count n s₂ area₂)
           ∙ ap (λ (ts : List Tet). answer (boundaryNumber ts) (length (boundaryOf ts))) elements₂
 
-      -- the triples that stand behind the elements
-      record Found (c : ℕ) : Type 0 where
-        pub list : List Triple
-        pub size : length list ≡ c
-        pub front : take (4 * n + 3 * c) s₃ ≡ take (4 * n) s₀ ++ flat (map cornersOf list)
-        pub words : flat (map cornersOf (sort leTriple list)) ≡ surfaceWords (tets n s₀)
+      -- a refusal, and the area cleared
+      pub refused : (k : ℕ) → r ≡ Refused k → (z : List ℕ) → z ≡ zeroWords (length s₃) → _≡_ {A = Filled} (record { answer = Refused k; area = z }) (boundaryIn n s₀)
+      refused k hr z e =
+          let g = refused-is (boundaryNumber (tets n s₂)) (length (gathered n s₂)) k (sym hr ∙ answered₂) in
+          let b : eqb (boundaryNumber (tets n s₀)) 0 ≡ false = ap (λ (ts : List Tet). eqb (boundaryNumber ts) 0) (sym elements₂) ∙ g .0 in
+          ap₂ (λ (u : Outcome) (v : List ℕ). record { answer = u; area = v }) (sym hr ∙ answered) (e ∙ ap zeroWords (long₃ ∙ long₂) ∙ sym (area-bad n s₀ b))
+          ∙ sym (filled-is n s₀ fits)
 
-      found : (c : ℕ) → c ≡ triplesOf r → Found c
-      unfolding flat sort
-      found c e = go (boundaryNumber (tets n s₂)) refl
-        where
-          go : (k : ℕ) → boundaryNumber (tets n s₂) ≡ k → Found c
-          go zero z =
-              let q : length (gathered n s₂) ≡ c = sym (e ∙ ap triplesOf (answered₂ ∙ ap (λ (i : ℕ). answer i (length (gathered n s₂))) z) ∙ answer-zero (length (gathered n s₂))) in
-              record {
-                list = gathered n s₂;
-                size = q;
-                front = ap (λ (i : ℕ). take (4 * n + 3 * i) s₃) (sym q) ∙ g .front ∙ ap (λ (u : List ℕ). u ++ flat (map cornersOf (gathered n s₂))) head₂;
-                words = ap (λ (l : List Triple). flat (map cornersOf l)) (area-surface n s₂ area₂ z) ∙ sym (words-good (tets n s₂) z) ∙ ap surfaceWords elements₂;
-              }
-          go (suc k) z =
-              let q : 0 ≡ c = sym (e ∙ ap triplesOf (answered₂ ∙ ap (λ (i : ℕ). answer i (length (gathered n s₂))) z) ∙ answer-bad k (length (gathered n s₂))) in
-              let j : 4 * n + 3 * c ≡ 4 * n = omega (arith, q) in
-              record {
-                list = [];
-                size = q;
-                front =
-                    ap (λ (i : ℕ). take i s₃) j ∙ sym (take-take (4 * n) (4 * n + 3 * length (gathered n s₂)) s₃ (omega arith)) ∙ ap (take (4 * n)) (g .front)
-                    ∙ take-at (take (4 * n) s₂) (flat (map cornersOf (gathered n s₂))) (4 * n) (length-take-le (4 * n) s₂ (omega (arith, long₂, room)))
-                    ∙ head₂ ∙ sym (append-nil (take (4 * n) s₀));
-                words = sym (words-bad (tets n s₂) k z) ∙ ap surfaceWords elements₂;
-              }
+      -- a surface of c triples, which stand behind the elements
+      module _ (c : ℕ) (hr : r ≡ Surface c) where
+        no-number : boundaryNumber (tets n s₂) ≡ 0
+        no-number = taken-zero (boundaryNumber (tets n s₂)) (length (gathered n s₂)) c (sym hr ∙ answered₂) .0
 
-      module _ (c : ℕ) (ec : c ≡ triplesOf r) where
+        size : length (gathered n s₂) ≡ c
+        size = sym (taken-zero (boundaryNumber (tets n s₂)) (length (gathered n s₂)) c (sym hr ∙ answered₂) .1)
+
+        front : take (4 * n + 3 * c) s₃ ≡ take (4 * n) s₀ ++ flat (map cornersOf (gathered n s₂))
+        front = ap (λ (i : ℕ). take (4 * n + 3 * i) s₃) (sym size) ∙ g .front ∙ ap (λ (u : List ℕ). u ++ flat (map cornersOf (gathered n s₂))) head₂
+
+        words : flat (map cornersOf (sort leTriple (gathered n s₂))) ≡ surfaceWords (tets n s₀)
+        words = ap (λ (l : List Triple). flat (map cornersOf l)) (area-surface n s₂ area₂ no-number) ∙ sym (words-good (tets n s₂) no-number) ∙ ap surfaceWords elements₂
+
+        count : c ≡ triplesOf (answerOf (tets n s₀))
+        count = sym (ap triplesOf (sym answered ∙ hr))
+
         few-found : c ≤ 4 * n
-        few-found = omega (arith, ec, ap triplesOf answered, triples-few n s₀)
+        few-found = omega (arith, count, triples-few n s₀)
 
         long-words : length (surfaceWords (tets n s₀)) ≡ 3 * c
-        long-words = words-count (tets n s₀) ∙ ap (λ (i : ℕ). 3 * i) (sym (ec ∙ ap triplesOf answered))
+        long-words = words-count (tets n s₀) ∙ ap (λ (i : ℕ). 3 * i) (sym count)
 
         head₃ : take (4 * n) s₃ ≡ take (4 * n) s₀
         head₃ =
-            sym (take-take (4 * n) (4 * n + 3 * c) s₃ (omega arith)) ∙ ap (take (4 * n)) (found c ec .front)
-            ∙ take-at (take (4 * n) s₀) (flat (map cornersOf (found c ec .list))) (4 * n) head-long
+            sym (take-take (4 * n) (4 * n + 3 * c) s₃ (omega arith)) ∙ ap (take (4 * n)) front
+            ∙ take-at (take (4 * n) s₀) (flat (map cornersOf (gathered n s₂))) (4 * n) head-long
 
-        gathered-words : take (c * 3) (drop (4 * n) s₃) ≡ flat (map cornersOf (found c ec .list))
+        gathered-words : take (c * 3) (drop (4 * n) s₃) ≡ flat (map cornersOf (gathered n s₂))
         gathered-words =
             let q : c * 3 ≡ 3 * c = omega arith in
             ap (λ (i : ℕ). take i (drop (4 * n) s₃)) q
             ∙ sym (drop-at (take (4 * n) s₃) (take (3 * c) (drop (4 * n) s₃)) (4 * n) (length-take-le (4 * n) s₃ (omega (arith, long₃, long₂, room))))
-            ∙ ap (drop (4 * n)) (sym (take-add (4 * n) (3 * c) s₃) ∙ found c ec .front)
-            ∙ drop-at (take (4 * n) s₀) (flat (map cornersOf (found c ec .list))) (4 * n) head-long
+            ∙ ap (drop (4 * n)) (sym (take-add (4 * n) (3 * c) s₃) ∙ front)
+            ∙ drop-at (take (4 * n) s₀) (flat (map cornersOf (gathered n s₂))) (4 * n) head-long
 
-        gathered-rows : rows 3 c (drop (4 * n) s₃) ≡ map cornersOf (found c ec .list)
+        gathered-rows : rows 3 c (drop (4 * n) s₃) ≡ map cornersOf (gathered n s₂)
         gathered-rows =
-            let l = found c ec .list in
+            let l = gathered n s₂ in
             let w = flat (map cornersOf l) in
-            rows-words 3 c (drop (4 * n) s₃) w (gathered-words ∙ sym (take-all (c * 3) w (omega (arith, length-triples l, found c ec .size))))
-            ∙ ap (rows 3 c) (sym (append-nil w)) ∙ ap (λ (i : ℕ). rows 3 i (w ++ [])) (sym (found c ec .size)) ∙ rows-flat (shape-corners l) []
+            rows-words 3 c (drop (4 * n) s₃) w (gathered-words ∙ sym (take-all (c * 3) w (omega (arith, length-triples l, size))))
+            ∙ ap (rows 3 c) (sym (append-nil w)) ∙ ap (λ (i : ℕ). rows 3 i (w ++ [])) (sym (size)) ∙ rows-flat (shape-corners l) []
 
         sorted-words : flat (sort leRow (rows 3 c (drop (4 * n) s₃))) ≡ surfaceWords (tets n s₀)
-        sorted-words = ap flat (ap (sort leRow) gathered-rows ∙ sort-corners (found c ec .list)) ∙ found c ec .words
+        sorted-words = ap flat (ap (sort leRow) gathered-rows ∙ sort-corners (gathered n s₂)) ∙ words
 
         -- and sorted again
         module _ (x₂ : List ℕ) (f₂ : x₂ ≡ sortedArea c 3 (midOf (4 * n) (length s₃ - 4 * n) s₃)) where
@@ -244,8 +321,7 @@ module _ (n : ℕ) (s₀ : List ℕ) (fits : areaFits n (length s₀) ≡ true) 
 
           -- and cleared
           pub filled : (z : List ℕ) → z ≡ zeroWords (length (midOf (4 * n + 3 * c) (length s₄ - (4 * n + 3 * c)) s₄))
-              → _≡_ {A = Filled} (record { answer = r; area = putMid (4 * n + 3 * c) (length s₄ - (4 * n + 3 * c)) s₄ z }) (boundaryIn n s₀)
-          unfolding boundaryIn
+              → _≡_ {A = Filled} (record { answer = Surface c; area = putMid (4 * n + 3 * c) (length s₄ - (4 * n + 3 * c)) s₄ z }) (boundaryIn n s₀)
           filled z e =
               let w = surfaceWords (tets n s₀) in
               let k : length (drop (4 * n + 3 * c) s₄) ≡ length s₀ - (4 * n + length w) = omega (arith, length-drop (4 * n + 3 * c) s₄, long₄, long-words) in
@@ -254,4 +330,5 @@ module _ (n : ℕ) (s₀ : List ℕ) (fits : areaFits n (length s₀) ≡ true) 
               ∙ ap₂ (λ (u v : List ℕ). u ++ v) (ap (take (4 * n + 3 * c)) put₄ ∙ take-at (take (4 * n) s₀ ++ w) rest (4 * n + 3 * c) front-long)
               (e ∙ ap (λ (u : List ℕ). zeroWords (length u)) (tail-mid (4 * n + 3 * c) s₄) ∙ ap zeroWords k)
               ∙ append-assoc (take (4 * n) s₀) w (zeroWords (length s₀ - (4 * n + length w))) in
-              ap₂ (λ (u : Outcome) (v : List ℕ). record { answer = u; area = v }) answered a ∙ rw fits
+              let y : eqb (boundaryNumber (tets n s₀)) 0 ≡ true = eq-eqb (boundaryNumber (tets n s₀)) 0 (ap boundaryNumber (sym elements₂) ∙ no-number) in
+              ap₂ (λ (u : Outcome) (v : List ℕ). record { answer = u; area = v }) (sym hr ∙ answered) (a ∙ sym (area-good n s₀ y)) ∙ sym (filled-is n s₀ fits)
