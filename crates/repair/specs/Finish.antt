@@ -19,7 +19,6 @@ use Rattle.mesh.specs.Surface.{answer}
 use Rattle.mesh.specs.Manifold.{nonmanifold, nonmanifoldIn}
 use Rattle.mesh.specs.Intake.{wellNumbered, pointIn}
 use Rattle.repair.specs.declared.answer.Answer.{Answer}
-use Rattle.repair.specs.declared.answer.Answer.the-variants as answers
 use Rattle.repair.specs.Mesh.{made, refused}
 use Rattle.repair.specs.Improve.{imageOf, allVertices, firstUses, placeOf, renumbered, endNumber}
 use Rattle.repair.specs.Step.{State, meshOf, floatsOf, tripleWords, over, finish}
@@ -31,11 +30,6 @@ unfoldable pub improveEnd : ℕ → List Tet → State → Answer × State
 improveEnd count ts s =
     let n = renumbered (meshOf s) ts in
     finish s (cond (eqb (endNumber n) 0) (made count n) (refused (endNumber n)))
-
--- the sizes that the mesh has after an answer; also for the contracts of `improve` and `flip`
-abbrev pub sizesAfter : Answer → Sizes → Sizes
-sizesAfter (answers.Done count sizes) z = sizes
-sizesAfter (answers.Refused number) z = z
 
 -- ---- what it asks
 
@@ -113,10 +107,10 @@ abbrev pub testedPart : Outcome → List ℕ → List ℕ
 testedPart (Surface c) p = nonmanifoldIn c p .area
 testedPart (Refused number) p = p
 
--- the answer for the k elements, which are kept with what stands from `usedAt` on; the triples stand behind them
+-- the answer for the k elements; with no number they are kept, and the triples stand behind them. What stands from `usedAt` on is kept
 pub record Ended (k nv : ℕ) (s₀ s : List ℕ) (r : Outcome) : Type 0 where
   pub answer : r ≡ answer (endOf (tets k s₀)) (length (boundaryOf (tets k s₀)))
-  pub front : take (4 * k) s ≡ take (4 * k) s₀
+  pub front : endOf (tets k s₀) ≡ 0 → take (4 * k) s ≡ take (4 * k) s₀
   pub surface : endOf (tets k s₀) ≡ 0 → take (3 * length (boundaryOf (tets k s₀))) (drop (4 * k) s) ≡ tripleWords (boundaryOf (tets k s₀))
   pub behind : drop (usedAt k nv) s ≡ drop (usedAt k nv) s₀
 

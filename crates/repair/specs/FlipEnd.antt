@@ -23,10 +23,10 @@ abbrev pub keyedOutcome : ℕ → ℕ → Outcome → List ℕ → List ℕ → 
 keyedOutcome k g (Surface c) s f = cond (sameTriples (sortedKeys (triples c (drop (4 * k) s))) (sortedKeys (triples g f))) (Surface c) (Refused 23)
 keyedOutcome k g (Refused number) s f = Refused number
 
--- the answer for the k elements of s₀, which are kept; the triples stand behind them
+-- the answer for the k elements of s₀; with no number they are kept, and the triples stand behind them
 pub record SurfaceEnded (k g : ℕ) (f s₀ s : List ℕ) (r : Outcome) : Type 0 where
   pub answer : r ≡ answer (endNumber (triples g f) (tets k s₀)) (length (boundaryOf (tets k s₀)))
-  pub front : take (4 * k) s ≡ take (4 * k) s₀
+  pub front : endNumber (triples g f) (tets k s₀) ≡ 0 → take (4 * k) s ≡ take (4 * k) s₀
   pub surface : endNumber (triples g f) (tets k s₀) ≡ 0 → take (3 * length (boundaryOf (tets k s₀))) (drop (4 * k) s) ≡ tripleWords (boundaryOf (tets k s₀))
 
 -- room for the end with k elements and g triples given, in buffers of e and f words and an area of m words

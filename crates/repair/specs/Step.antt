@@ -59,6 +59,15 @@ abbrev pub valuesOf : Answer → List ℕ
 valuesOf (Done count sizes) = count ∷ sizes .vertices ∷ sizes .elements ∷ sizes .triples ∷ []
 valuesOf (Refused number) = []
 
+-- an answer as this paper's number and values, with the mesh
+unfoldable pub inNumbers : Answer × State → ℕ × List ℕ × State
+inNumbers x = (numberOf (x .0), valuesOf (x .0), x .1)
+
+-- the sizes that the mesh has after an answer: "A call that gives a count hands on what it made, a refused one what it got"
+abbrev pub sizesAfter : Answer → Sizes → Sizes
+sizesAfter (Done count sizes) z = sizes
+sizesAfter (Refused number) z = z
+
 -- ---- buffers and values
 
 -- the first n triples of a list of words, three words each

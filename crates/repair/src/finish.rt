@@ -32,8 +32,8 @@ ghost use Rattle.mesh.specs.Intake.{pointIn};
 ghost use Rattle.mesh.specs.Manifold.{KeptBelow};
 ghost use Rattle.repair.specs.declared.answer.Answer.{Answer};
 ghost use Rattle.repair.specs.Improve.{allVertices};
-ghost use Rattle.repair.specs.Step.{State, floatsOf};
-ghost use Rattle.repair.specs.Finish.{improveEnd, sizesAfter, EndArea, EndBuffers, numberedAt, metAt, Unmet, Numbered, Renumbered, testedOutcome, testedPart, Ended, listed, movedPoints, movedMasks, MeshRoom, movedIn};
+ghost use Rattle.repair.specs.Step.{State, sizesAfter, floatsOf};
+ghost use Rattle.repair.specs.Finish.{improveEnd, EndArea, EndBuffers, numberedAt, metAt, Unmet, Numbered, Renumbered, testedOutcome, testedPart, Ended, listed, movedPoints, movedMasks, MeshRoom, movedIn};
 
 // Writes the new number of the vertex at p, the next one where it is not met yet, and gives how many are met then.
 fn number_word(area: &mut [u32], p: usize, marks: usize, used: usize, count: u32) -> u32

@@ -11,7 +11,6 @@ use mesh::about::live_elements;
 use mesh::intake::Sizes;
 use mesh::intake::intake;
 use mesh::words::clear;
-use mesh::words::clear_floats;
 ghost use mathlib.Core.Path.{_≡_};
 ghost use mathlib.Core.List.{List};
 ghost use mathlib.Core.Option.{none};
@@ -19,8 +18,7 @@ ghost use Prim.Native.Nat.{ℕ};
 ghost use lib.ListN.{length};
 ghost use Rattle.mesh.specs.Words.{zeroWords, zeroFloats};
 ghost use Rattle.repair.specs.declared.answer.Answer.{Answer};
-ghost use Rattle.repair.specs.Finish.{sizesAfter};
-ghost use Rattle.repair.specs.Step.{State, Pass, step};
+ghost use Rattle.repair.specs.Step.{State, Pass, numberOf, valuesOf, inNumbers, sizesAfter, step};
 ghost use Rattle.repair.specs.FlipFitting.{FlipFitting, flipWhole};
 
 // The pass on a mesh that passed intake.
@@ -59,10 +57,10 @@ pub fn flip(
     work: &mut [u32],
     floats: &mut [f64],
 ) -> Answer
-    ensures { λ r. ⌜ _≡_ {A = Answer × State}
-        (r, record { parameters = now (parameters .exit); points = now (points .exit); masks = now (masks .exit); elements = now (elements .exit); surface = now (surface .exit); sizes = sizesAfter r sizes })
-        (step (record { pass = Pass.flip; options = o; fields = fields; count = count; regions = none; words = length (now (work .entry)); floats = length (now (floats .entry)) })
-        (record { parameters = now (parameters .entry); points = now (points .entry); masks = now (masks .entry); elements = now (elements .entry); surface = now (surface .entry); sizes = sizes })) ⌝ }
+    ensures { λ r. ⌜ _≡_ {A = ℕ × List ℕ × State}
+        (numberOf r, valuesOf r, record { parameters = now (parameters .exit); points = now (points .exit); masks = now (masks .exit); elements = now (elements .exit); surface = now (surface .exit); sizes = sizesAfter r sizes })
+        (inNumbers (step (record { pass = Pass.flip; options = o; fields = fields; count = count; regions = none; words = length (now (work .entry)); floats = length (now (floats .entry)) })
+        (record { parameters = now (parameters .entry); points = now (points .entry); masks = now (masks .entry); elements = now (elements .entry); surface = now (surface .entry); sizes = sizes }))) ⌝ }
     ensures { λ _. ⌜ now (work .exit) ≡ zeroWords (length (now (work .entry))) ⌝ }
     ensures { λ _. ⌜ now (floats .exit) ≡ zeroFloats (length (now (floats .entry))) ⌝ }
 {
@@ -80,11 +78,9 @@ pub fn flip(
         floats,
     );
     if number != 0 {
-        clear_floats(floats);
         return Answer::Refused(number);
     }
     let answer = flip_all(sizes, points, elements, surface, work);
     clear(work);
-    clear_floats(floats);
     answer
 }

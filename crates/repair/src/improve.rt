@@ -15,20 +15,16 @@ use mesh::star::Index;
 use mesh::words::clear;
 use mesh::words::clear_floats;
 ghost use mathlib.Core.Path.{_≡_};
-ghost use mathlib.Core.Bool.{true};
+ghost use mathlib.Core.List.{List};
 ghost use mathlib.Core.Option.{none};
-ghost use Prim.Native.Nat.{_+_, _*_, _≤_};
+ghost use Prim.Native.Nat.{ℕ, _+_, _*_, _≤_};
 ghost use lib.ListN.{length};
 ghost use Rattle.mesh.specs.Words.{zeroWords, zeroFloats};
-ghost use Rattle.mesh.specs.Tests.{every};
-ghost use Rattle.mesh.specs.Element.{tets};
-ghost use Rattle.mesh.specs.Intake.{wellNumbered};
 ghost use Rattle.repair.specs.declared.answer.Answer.{Answer};
 ghost use Rattle.repair.specs.Mesh.{Mesh, measure};
 ghost use Rattle.repair.specs.Improve as def;
 ghost use Rattle.repair.specs.Layout.{Stands, Reads, Ready};
-ghost use Rattle.repair.specs.Finish.{sizesAfter};
-ghost use Rattle.repair.specs.Step.{State, Pass, finish, meshOf, step};
+ghost use Rattle.repair.specs.Step.{State, Pass, numberOf, valuesOf, inNumbers, sizesAfter, finish, meshOf, step};
 ghost use Rattle.repair.specs.Fitting.{Fitting};
 
 // At most o.passes rounds, ended by one that collapses nothing. Gives how many vertices were replaced.
@@ -113,10 +109,10 @@ pub fn improve(
     work: &mut [u32],
     floats: &mut [f64],
 ) -> Answer
-    ensures { λ r. ⌜ _≡_ {A = Answer × State}
-        (r, record { parameters = now (parameters .exit); points = now (points .exit); masks = now (masks .exit); elements = now (elements .exit); surface = now (surface .exit); sizes = sizesAfter r sizes })
-        (step (record { pass = Pass.improve; options = o; fields = fields; count = count; regions = none; words = length (now (work .entry)); floats = length (now (floats .entry)) })
-        (record { parameters = now (parameters .entry); points = now (points .entry); masks = now (masks .entry); elements = now (elements .entry); surface = now (surface .entry); sizes = sizes })) ⌝ }
+    ensures { λ r. ⌜ _≡_ {A = ℕ × List ℕ × State}
+        (numberOf r, valuesOf r, record { parameters = now (parameters .exit); points = now (points .exit); masks = now (masks .exit); elements = now (elements .exit); surface = now (surface .exit); sizes = sizesAfter r sizes })
+        (inNumbers (step (record { pass = Pass.improve; options = o; fields = fields; count = count; regions = none; words = length (now (work .entry)); floats = length (now (floats .entry)) })
+        (record { parameters = now (parameters .entry); points = now (points .entry); masks = now (masks .entry); elements = now (elements .entry); surface = now (surface .entry); sizes = sizes }))) ⌝ }
     ensures { λ _. ⌜ now (work .exit) ≡ zeroWords (length (now (work .entry))) ⌝ }
     ensures { λ _. ⌜ now (floats .exit) ≡ zeroFloats (length (now (floats .entry))) ⌝ }
 {
@@ -134,7 +130,6 @@ pub fn improve(
         floats,
     );
     if number != 0 {
-        clear_floats(floats);
         return Answer::Refused(number);
     }
     let answer = improve_all(

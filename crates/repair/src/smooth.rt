@@ -25,25 +25,23 @@ use mesh::star::Index;
 use mesh::star::build;
 use mesh::star::neighbours;
 use mesh::words::clear;
-use mesh::words::clear_floats;
 use mesh::words::copy_into;
 use mesh::words::word;
 ghost use mathlib.Core.Path.{_≡_};
 ghost use mathlib.Core.Bool.{true};
-ghost use mathlib.Core.List.{map};
-ghost use Prim.Native.Nat.{_+_, _*_, _≤_, _<_};
+ghost use mathlib.Core.List.{List, map};
+ghost use Prim.Native.Nat.{ℕ, _+_, _*_, _≤_, _<_};
 ghost use lib.ListN.{length, take, drop};
 ghost use Rattle.mesh.specs.Words.{wordAt, pointAt, pointsOf, zeroWords, zeroFloats};
 ghost use Rattle.mesh.specs.Tests.{every};
 ghost use Rattle.mesh.specs.Element.{tets};
 ghost use Rattle.mesh.specs.Group.{groups};
 ghost use Rattle.mesh.specs.Intake.{wellNumbered};
-ghost use Rattle.repair.specs.declared.answer.Answer.{Answer};
 ghost use Rattle.repair.specs.Mesh.{measure, lowestOf};
 ghost use Rattle.repair.specs.Smooth.{mean, bestFor, smoothGroup, smoothGroups};
 ghost use Rattle.repair.specs.Regions.{regionsOf};
 ghost use Rattle.repair.specs.Site.{members, about, stateOf, bestIn, Turned, SameTo, Ready, Slots, Rows, Listed, Sited, Started, usedWords, meshRead, meshFor, Grouped};
-ghost use Rattle.repair.specs.Step.{State, Pass, step};
+ghost use Rattle.repair.specs.Step.{State, Pass, numberOf, valuesOf, inNumbers, step};
 
 // Lists the elements about the group whose first vertex stands at `group`, and gives where all of it stands.
 fn list_about(work: &mut [u32], x: Index, group: usize, count: usize) -> Site
@@ -309,7 +307,8 @@ fn smooth_in(
     moved
 }
 
-// Moves vertices of badly shaped elements; the count is that of the vertices moved. Both work slices are all zeros afterwards.
+// Moves vertices of badly shaped elements; the count is that of the vertices moved. Both work slices may hold anything before, and are all
+// zeros afterwards.
 pub fn smooth(
     sizes: Sizes,
     o: Options,
@@ -325,13 +324,12 @@ pub fn smooth(
     work: &mut [u32],
     floats: &mut [f64],
 ) -> Answer
-    ensures { λ r. ⌜ _≡_ {A = Answer × State} (r, record { parameters = now (parameters .exit); points = now (points .exit); masks = now (masks .entry); elements = now (elements .entry); surface = now (surface .entry); sizes = sizes })
-        (step (record { pass = Pass.smooth; options = o; fields = fields; count = count; regions = regionsOf listed (now (regions .entry)); words = length (now (work .entry)); floats = length (now (floats .entry)) })
-        (record { parameters = now (parameters .entry); points = now (points .entry); masks = now (masks .entry); elements = now (elements .entry); surface = now (surface .entry); sizes = sizes })) ⌝ }
+    ensures { λ r. ⌜ _≡_ {A = ℕ × List ℕ × State} (numberOf r, valuesOf r, record { parameters = now (parameters .exit); points = now (points .exit); masks = now (masks .entry); elements = now (elements .entry); surface = now (surface .entry); sizes = sizes })
+        (inNumbers (step (record { pass = Pass.smooth; options = o; fields = fields; count = count; regions = regionsOf listed (now (regions .entry)); words = length (now (work .entry)); floats = length (now (floats .entry)) })
+        (record { parameters = now (parameters .entry); points = now (points .entry); masks = now (masks .entry); elements = now (elements .entry); surface = now (surface .entry); sizes = sizes }))) ⌝ }
     ensures { λ _. ⌜ now (work .exit) ≡ zeroWords (length (now (work .entry))) ⌝ }
     ensures { λ _. ⌜ now (floats .exit) ≡ zeroFloats (length (now (floats .entry))) ⌝ }
 {
-    clear_floats(floats);
     let number = intake(
         sizes,
         o,

@@ -51,9 +51,9 @@ module _ (c : Call) (s : State) (work : List ℕ) (floats : List Float) (words :
   lengths number e f = long-enough (s .sizes) (lengthsOf c s) (passed number e f .few) (rw (words, many) (passed number e f .long))
 
   -- and the buffers are as `improve` asks
-  pub fitting : (number : ℕ) → number ≡ intake seen → number ≡ 0 → (w : List ℕ) → w ≡ zeroWords (length work) → Fitting (c .options) s w (length floats)
+  pub fitting : (number : ℕ) → number ≡ intake seen → number ≡ 0 → (w : List ℕ) → w ≡ zeroWords (length work) → {j : ℕ} → j ≡ length floats → Fitting (c .options) s w j
   unfolding givenOf
-  fitting number e f w z =
+  fitting number e f w z l =
       let p = passed number e f in
       let h = lengths number e f in
       let o = c .options in
@@ -73,7 +73,7 @@ module _ (c : Call) (s : State) (work : List ℕ) (floats : List Float) (words :
           masks = h .masks;
           elements = h .slots;
           surface = h .surface;
-          floats = omega (arith, h .floats, many);
+          floats = omega (arith, h .floats, many, l);
         };
         long = omega (arith, h .words, long, words);
         zeros = z ∙ ap zeroWords (sym long);

@@ -5,10 +5,10 @@ use mathlib.Core.Bool.{Bool, true, false, cond}
 use mathlib.Core.List.{List, _++_, map, append-assoc}
 use Prim.Native.Nat.{ℕ, _+_, _-_, _*_, _≤_}
 use native.Mathlib.Omega.{arith}
-use borrow.Author.Tests.{le-leb, eqb-false}
+use borrow.Author.Tests.{eqb-false}
 use borrow.Rule.Slice.PartMut.{midOf, postOf, putMid, take-put, drop-put, put-same}
 use lib.Dec.{eqb, ltb}
-use lib.ListN.{length, take, drop, length-append, length-drop, length-replicate}
+use lib.ListN.{length, take, drop, length-append, length-drop, length-replicate, take-append-drop}
 use lib.Seq.{take-at, drop-at, take-take, length-take-le}
 use Rattle.mesh.specs.declared.element.Tet.{Tet}
 use Rattle.mesh.specs.declared.element.Triple.{Triple}
@@ -19,11 +19,12 @@ use Rattle.mesh.specs.Rows.{flat}
 use Rattle.mesh.specs.Tests.{every}
 use Rattle.mesh.specs.Element.{tets, cornersOf}
 use Rattle.mesh.specs.Boundary.{boundaryNumber, boundaryOf}
-use Rattle.mesh.specs.Surface.{triplesOf, answer, answerOf, surfaceWords, areaFits, Filled, boundaryIn}
+use Rattle.mesh.specs.Surface.{triplesOf, answer, answerOf, surfaceWords, Filled, areaAfter, boundaryIn}
 use Rattle.mesh.specs.Manifold.{nonmanifold, triples, surfaceVertices, surfaceFits, Tested, nonmanifoldIn}
 use Rattle.mesh.proofs.Laws.Complex.Sets.{split}
 use Rattle.mesh.proofs.Laws.Boundary.Faces.{tets-kept}
-use Rattle.mesh.proofs.Laws.Boundary.Whole.{words-count, triples-few}
+use Rattle.mesh.proofs.Laws.Boundary.Whole.{words-count, triples-few, area-front, area-behind, area-long, filled-is}
+use Rattle.mesh.proofs.Laws.Boundary.Called.{area-fits}
 use Rattle.mesh.proofs.Laws.Manifold.Whole.{triples-flat, fits-below}
 use Rattle.repair.specs.Improve.{allVertices}
 use Rattle.repair.specs.Step.{tripleWords}
@@ -73,11 +74,6 @@ end-few k s h =
 
 -- ---- `boundary_in` on a part
 
-filled-is : (k : ℕ) (s : List ℕ) → k ≤ 16384 → 36 * k ≤ length s
-    → boundaryIn k s ≡ record { answer = answerOf (tets k s); area = take (4 * k) s ++ (surfaceWords (tets k s) ++ zeroWords (length s - (4 * k + length (surfaceWords (tets k s))))) }
-unfolding boundaryIn areaFits
-filled-is k s h r = rw (le-leb k 65536 (omega arith), le-leb (36 * k) (length s) r) refl
-
 module _ (k nv : ℕ) (s₀ : List ℕ) (few : k ≤ 16384) (room : 112 * k + nv ≤ length s₀) (below : every (λ v. ltb v nv) (allVertices (tets k s₀)) ≡ true) (f : Outcome) (p : List ℕ)
     (found : _≡_ {A = Filled} (record { answer = f; area = p }) (boundaryIn k (midOf 0 (112 * k + nv - 0) s₀))) where
   ts : List Tet
@@ -103,16 +99,37 @@ module _ (k nv : ℕ) (s₀ : List ℕ) (few : k ≤ 16384) (room : 112 * k + nv
   part-tets = tets-kept k (midOf 0 (112 * k + nv - 0) s₀) s₀ part-front
 
   filled : _≡_ {A = Filled} (record { answer = f; area = p })
-      (record { answer = answerOf (tets k (midOf 0 (112 * k + nv - 0) s₀)); area = take (4 * k) (midOf 0 (112 * k + nv - 0) s₀) ++ (surfaceWords (tets k (midOf 0 (112 * k + nv - 0) s₀)) ++ zeroWords (length (midOf 0 (112 * k + nv - 0) s₀) - (4 * k + length (surfaceWords (tets k (midOf 0 (112 * k + nv - 0) s₀)))))) })
-  filled = found ∙ filled-is k (midOf 0 (112 * k + nv - 0) s₀) few (omega (arith, part-long))
+      (record { answer = answerOf (tets k (midOf 0 (112 * k + nv - 0) s₀)); area = areaAfter k (midOf 0 (112 * k + nv - 0) s₀) })
+  filled =
+      let part = midOf 0 (112 * k + nv - 0) s₀ in
+      found ∙ filled-is k part (area-fits k (length part) few (omega (arith, part-long)))
 
   found-is : f ≡ answerOf ts
   unfolding ts
   found-is = ap (λ (u : Filled). u .answer) filled ∙ ap answerOf part-tets
 
-  area-is : p ≡ take (4 * k) s₀ ++ (surfaceWords ts ++ zs)
-  unfolding ts e zs
-  area-is = ap (λ (u : Filled). u .area) filled ∙ rw (part-front, part-tets, part-long) refl
+  -- what stands in the place of the elements, and behind them
+  front : List ℕ
+  front = take (4 * k) p
+
+  area-is : p ≡ front ++ (surfaceWords ts ++ zs)
+  unfolding ts e zs front
+  area-is =
+      sym (take-append-drop (4 * k) p)
+      ∙ ap (λ (l : List ℕ). take (4 * k) p ++ l)
+      (ap (λ (u : Filled). drop (4 * k) (u .area)) filled ∙ area-behind k (midOf 0 (112 * k + nv - 0) s₀) (omega (arith, part-long)) ∙ rw (part-tets, part-long) refl)
+
+  front-long : length front ≡ 4 * k
+  unfolding front
+  front-long = length-take-le (4 * k) p (omega (arith, ap (λ (u : Filled). length (u .area)) filled, area-long k (midOf 0 (112 * k + nv - 0) s₀) (omega (arith, part-long)), part-long))
+
+  -- the elements are kept with no bad key
+  front-kept : eqb (boundaryNumber ts) 0 ≡ true → front ≡ take (4 * k) s₀
+  unfolding ts front
+  front-kept q =
+      ap (λ (u : Filled). take (4 * k) (u .area)) filled
+      ∙ area-front k (midOf 0 (112 * k + nv - 0) s₀) (omega (arith, part-long)) (ap (λ (l : List Tet). eqb (boundaryNumber l) 0) part-tets ∙ q)
+      ∙ part-front
 
   words-long : length (surfaceWords ts) ≤ 12 * k
   unfolding ts
@@ -129,17 +146,14 @@ module _ (k nv : ℕ) (s₀ : List ℕ) (few : k ≤ 16384) (room : 112 * k + nv
   behind-is : postOf 0 (112 * k + nv - 0) s₀ ≡ drop (112 * k + nv) s₀
   behind-is = let q : 112 * k + nv - 0 ≡ 112 * k + nv = omega arith in ap (λ (i : ℕ). drop i s₀) q
 
-  given-is : given ≡ take (4 * k) s₀ ++ ((surfaceWords ts ++ zs) ++ drop (112 * k + nv) s₀)
+  given-is : given ≡ front ++ ((surfaceWords ts ++ zs) ++ drop (112 * k + nv) s₀)
   unfolding given
   given-is =
       ap₂ (λ (u v : List ℕ). u ++ v) area-is behind-is
-      ∙ append-assoc (take (4 * k) s₀) (surfaceWords ts ++ zs) (drop (112 * k + nv) s₀)
-
-  front-long : length (take (4 * k) s₀) ≡ 4 * k
-  front-long = length-take-le (4 * k) s₀ (omega arith)
+      ∙ append-assoc front (surfaceWords ts ++ zs) (drop (112 * k + nv) s₀)
 
   given-drop : drop (4 * k) given ≡ (surfaceWords ts ++ zs) ++ drop (112 * k + nv) s₀
-  given-drop = ap (drop (4 * k)) given-is ∙ drop-at (take (4 * k) s₀) ((surfaceWords ts ++ zs) ++ drop (112 * k + nv) s₀) (4 * k) front-long
+  given-drop = ap (drop (4 * k)) given-is ∙ drop-at front ((surfaceWords ts ++ zs) ++ drop (112 * k + nv) s₀) (4 * k) front-long
 
   given-part : midOf (4 * k) (112 * k + nv - 4 * k) given ≡ surfaceWords ts ++ zs
   given-part = ap (take (112 * k + nv - 4 * k)) given-drop ∙ take-at (surfaceWords ts ++ zs) (drop (112 * k + nv) s₀) (112 * k + nv - 4 * k) rest-long
@@ -147,13 +161,13 @@ module _ (k nv : ℕ) (s₀ : List ℕ) (few : k ≤ 16384) (room : 112 * k + nv
   given-long : length given ≡ length s₀
   given-long =
       ap length given-is
-      ∙ omega (arith, length-append (take (4 * k) s₀) ((surfaceWords ts ++ zs) ++ drop (112 * k + nv) s₀), length-append (surfaceWords ts ++ zs) (drop (112 * k + nv) s₀), rest-long, front-long, length-drop (112 * k + nv) s₀)
+      ∙ omega (arith, length-append front ((surfaceWords ts ++ zs) ++ drop (112 * k + nv) s₀), length-append (surfaceWords ts ++ zs) (drop (112 * k + nv) s₀), rest-long, front-long, length-drop (112 * k + nv) s₀)
 
   given-behind : drop (112 * k + nv) given ≡ drop (112 * k + nv) s₀
   given-behind =
-      ap (drop (112 * k + nv)) (given-is ∙ sym (append-assoc (take (4 * k) s₀) (surfaceWords ts ++ zs) (drop (112 * k + nv) s₀)))
-      ∙ drop-at (take (4 * k) s₀ ++ (surfaceWords ts ++ zs)) (drop (112 * k + nv) s₀) (112 * k + nv)
-      (omega (arith, length-append (take (4 * k) s₀) (surfaceWords ts ++ zs), rest-long, front-long))
+      ap (drop (112 * k + nv)) (given-is ∙ sym (append-assoc front (surfaceWords ts ++ zs) (drop (112 * k + nv) s₀)))
+      ∙ drop-at (front ++ (surfaceWords ts ++ zs)) (drop (112 * k + nv) s₀) (112 * k + nv)
+      (omega (arith, length-append front (surfaceWords ts ++ zs), rest-long, front-long))
 
   -- ---- the test of that part
 
@@ -202,10 +216,10 @@ module _ (k nv : ℕ) (s₀ : List ℕ) (few : k ≤ 16384) (room : 112 * k + nv
     unfolding given part
     put-is = hs ∙ ap (putMid (4 * k) (112 * k + nv - 4 * k) given) (ap₂ testedPart found-is given-part)
 
-    front-is : take (4 * k) s ≡ take (4 * k) s₀
+    front-is : take (4 * k) s ≡ front
     front-is =
         ap (take (4 * k)) put-is ∙ take-put (4 * k) (112 * k + nv - 4 * k) given part (omega (arith, given-long))
-        ∙ ap (take (4 * k)) given-is ∙ take-at (take (4 * k) s₀) ((surfaceWords ts ++ zs) ++ drop (112 * k + nv) s₀) (4 * k) front-long
+        ∙ ap (take (4 * k)) given-is ∙ take-at front ((surfaceWords ts ++ zs) ++ drop (112 * k + nv) s₀) (4 * k) front-long
 
     behind : length part ≡ 112 * k + nv - 4 * k → drop (112 * k + nv) s ≡ drop (112 * k + nv) s₀
     behind l =
@@ -251,7 +265,7 @@ module _ (k nv : ℕ) (s₀ : List ℕ) (few : k ≤ 16384) (room : 112 * k + nv
 
       good : Ended k nv s₀ s r
       unfolding ts
-      good = record { answer = answer-good; front = front-is; surface = λ z. surface-good; behind = behind part-good-long }
+      good = record { answer = answer-good; front = λ z. front-is ∙ front-kept q; surface = λ z. surface-good; behind = behind part-good-long }
 
     -- with a bad one
     module _ (q : eqb (boundaryNumber ts) 0 ≡ false) where
@@ -269,7 +283,7 @@ module _ (k nv : ℕ) (s₀ : List ℕ) (few : k ≤ 16384) (room : 112 * k + nv
       unfolding ts
       bad = record {
         answer = answer-bad;
-        front = front-is;
+        front = λ z. absurd (eqb-false (boundaryNumber ts) 0 q (sym (bad-end ts q) ∙ z));
         surface = λ z. absurd (eqb-false (boundaryNumber ts) 0 q (sym (bad-end ts q) ∙ z));
         behind = behind (ap length part-bad ∙ rest-long);
       }

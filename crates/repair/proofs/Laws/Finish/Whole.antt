@@ -1,11 +1,10 @@
 -- The end of `improve`, step by step: what `finish_improve` hands on to its calls, and that their answers together are `improveEnd`. Assumes nothing.
 use mathlib.Core.Path.{_≡_, refl, sym, ap, _∙_}
-use mathlib.Core.Logic.{inl, inr}
 use mathlib.Core.Bool.{true, false}
 use mathlib.Core.List.{List, map}
 use Prim.Native.Nat.{ℕ, _+_, _*_, _≤_}
 use native.Mathlib.Omega.{arith}
-use borrow.Author.Tests.{eqb-true, ltb-true}
+use borrow.Author.Tests.{ltb-true}
 use lib.Dec.{eqb, ltb}
 use lib.Ieee.{Float}
 use lib.ListN.{length, take, drop, getD, length-map}
@@ -21,9 +20,9 @@ use Rattle.mesh.specs.Element.{tets}
 use Rattle.mesh.specs.Boundary.{boundaryOf}
 use Rattle.mesh.specs.Surface.{answer}
 use Rattle.mesh.specs.Intake.{pointIn}
-use Rattle.mesh.proofs.Laws.Complex.Sets.{split}
 use Rattle.mesh.proofs.Laws.Intake.Reads.{length-tets, points-at}
 use Rattle.mesh.proofs.Laws.Boundary.Faces.{map-known}
+use Rattle.mesh.proofs.Laws.Boundary.Whole.{taken-zero, refused-is}
 use Rattle.repair.specs.declared.answer.Answer.{Answer}
 use Rattle.repair.specs.declared.answer.Answer.the-variants as answers
 use Rattle.repair.specs.Mesh.{Mesh}
@@ -32,26 +31,6 @@ use Rattle.repair.specs.Step.{State, meshOf, floatsOf, elementWords, tri
 use Rattle.repair.specs.Finish.{improveEnd, EndArea, EndBuffers, usedBy, usedAt, Renumbered, endOf, Ended, listed, movedPoints, movedMasks, MeshRoom, movedIn}
 use Rattle.repair.proofs.Laws.Finish.Ended.{end-few}
 use Rattle.repair.proofs.Laws.Finish.Elements.{words-all, all-words, used-few, used-below, images-below}
-
--- ---- an answer of `end_surface`
-
--- a surface: no number, and so many triples
-pub taken-zero : (e n c : ℕ) → Surface c ≡ answer e n → (e ≡ 0) × (c ≡ n)
-unfolding answer
-taken-zero e n c h =
-    elim (split (eqb e 0)) [
-      | inl q ↦ (eqb-true e 0 q, let g : Surface c ≡ Surface n = h ∙ rw q refl in cc)
-      | inr q ↦ absurd (let g : Surface c ≡ Refused e = h ∙ rw q refl in let z : _≡_ {A = ℕ} 0 1 = cc in omega arith)
-    ]
-
--- a refusal: its number
-pub refused-is : (e n c : ℕ) → Refused c ≡ answer e n → (eqb e 0 ≡ false) × (c ≡ e)
-unfolding answer
-refused-is e n c h =
-    elim (split (eqb e 0)) [
-      | inl q ↦ absurd (let g : Refused c ≡ Surface n = h ∙ rw q refl in let z : _≡_ {A = ℕ} 0 1 = cc in omega arith)
-      | inr q ↦ (q, let g : Refused c ≡ Refused e = h ∙ rw q refl in cc)
-    ]
 
 -- ---- `improveEnd` by its number
 
@@ -96,10 +75,6 @@ module _ {k nv : ℕ} {a₀ a₁ : List ℕ} {n : ℕ} (A : EndArea k nv a₀) (
     listed-is : listed (usedAt k nv) n a₂ ≡ usedBy (tets k a₀)
     listed-is = ap (take n) (E .behind) ∙ R .used
 
-    words-are : take (4 * k) a₂ ≡ elementWords new
-    unfolding new newOf
-    words-are = E .front ∙ sym (all-words k a₁ (omega (arith, A .long, long₁))) ∙ ap allVertices (R .elements) ∙ sym (words-all new)
-
     -- a surface of c triples
     module _ {c : ℕ} (hc : r ≡ Surface c) where
       zero-end : endOf new ≡ 0
@@ -111,6 +86,10 @@ module _ {k nv : ℕ} {a₀ a₁ : List ℕ} {n : ℕ} (A : EndArea k nv a₀) (
       end₁ : endOf (tets k a₁) ≡ 0
       unfolding new newOf
       end₁ = ap endOf (R .elements) ∙ zero-end
+
+      words-are : take (4 * k) a₂ ≡ elementWords new
+      unfolding new newOf
+      words-are = E .front end₁ ∙ sym (all-words k a₁ (omega (arith, A .long, long₁))) ∙ ap allVertices (R .elements) ∙ sym (words-all new)
 
       few-triples : c ≤ 4 * k
       unfolding new newOf

@@ -8,7 +8,7 @@ use native.Mathlib.Omega.{arith}
 use borrow.Author.Tests.{eqb-false}
 use borrow.Rule.Slice.PartMut.{midOf, putMid}
 use lib.Dec.{eqb}
-use lib.ListN.{length, take, drop}
+use lib.ListN.{length, take, drop, take-append-drop}
 use lib.Seq.{take-at, drop-at, take-take, length-take-le}
 use Rattle.mesh.specs.declared.element.Tet.{Tet}
 use Rattle.mesh.specs.declared.element.Triple.{Triple}
@@ -17,12 +17,12 @@ use Rattle.mesh.specs.declared.boundary.Outcome.the-variants.{Surface, Refused}
 use Rattle.mesh.specs.Words.{zeroWords}
 use Rattle.mesh.specs.Element.{tets}
 use Rattle.mesh.specs.Boundary.{boundaryNumber, boundaryOf}
-use Rattle.mesh.specs.Surface.{triplesOf, answer, answerOf, surfaceWords, areaFits, Filled, boundaryIn}
+use Rattle.mesh.specs.Surface.{triplesOf, answer, answerOf, surfaceWords, areaFits, Filled, areaAfter, boundaryIn}
 use Rattle.mesh.specs.Manifold.{triples}
 use Rattle.mesh.proofs.Laws.Complex.Sets.{split}
 use Rattle.mesh.proofs.Laws.Parts.{part-same}
 use Rattle.mesh.proofs.Laws.Boundary.Faces.{tets-kept}
-use Rattle.mesh.proofs.Laws.Boundary.Whole.{words-count, triples-few}
+use Rattle.mesh.proofs.Laws.Boundary.Whole.{words-count, triples-few, area-front, area-behind, area-long, filled-is}
 use Rattle.mesh.proofs.Laws.Manifold.Whole.{triples-flat}
 use Rattle.repair.specs.Flip.{sortedKeys, sameTriples, endNumber}
 use Rattle.repair.specs.Step.{tripleWords}
@@ -30,7 +30,6 @@ use Rattle.repair.specs.Layout.{Same}
 use Rattle.repair.specs.FlipEnd.{keyedOutcome, SurfaceEnded}
 use Rattle.repair.proofs.Laws.Finish.Surface.{words-flat}
 use Rattle.repair.proofs.Laws.Finish.Ended.{good-answer, good-words, bad-answer, refused-answer}
-use Rattle.mesh.proofs.Laws.Boundary.Called.{filled-is}
 
 -- ---- by the number of the boundary
 
@@ -69,8 +68,7 @@ module _ (k g : ℕ) (s₀ f : List ℕ) (fit : areaFits k (36 * k) ≡ true) (r
   part-tets : tets k part ≡ ts
   part-tets = tets-kept k part s₀ part-front
 
-  filled : _≡_ {A = Filled} (record { answer = o; area = p })
-      (record { answer = answerOf (tets k part); area = take (4 * k) part ++ (surfaceWords (tets k part) ++ zeroWords (length part - (4 * k + length (surfaceWords (tets k part))))) })
+  filled : _≡_ {A = Filled} (record { answer = o; area = p }) (record { answer = answerOf (tets k part); area = areaAfter k part })
   filled = found ∙ filled-is k part (ap (areaFits k) part-long ∙ fit)
 
   found-is : o ≡ answerOf ts
@@ -79,11 +77,23 @@ module _ (k g : ℕ) (s₀ f : List ℕ) (fit : areaFits k (36 * k) ≡ true) (r
   abbrev zs : List ℕ
   zs = zeroWords (36 * k - (4 * k + length (surfaceWords ts)))
 
-  area-is : p ≡ take (4 * k) s₀ ++ (surfaceWords ts ++ zs)
-  area-is = ap (λ (u : Filled). u .area) filled ∙ rw (part-front, part-tets, part-long) refl
+  -- what stands in the place of the elements, and behind them
+  abbrev front : List ℕ
+  front = take (4 * k) p
 
-  front-long : length (take (4 * k) s₀) ≡ 4 * k
-  front-long = length-take-le (4 * k) s₀ (omega arith)
+  area-is : p ≡ front ++ (surfaceWords ts ++ zs)
+  area-is =
+      sym (take-append-drop (4 * k) p)
+      ∙ ap (λ (l : List ℕ). front ++ l) (ap (λ (u : Filled). drop (4 * k) (u .area)) filled ∙ area-behind k part (omega (arith, part-long)) ∙ rw (part-tets, part-long) refl)
+
+  front-long : length front ≡ 4 * k
+  front-long = length-take-le (4 * k) p (omega (arith, ap (λ (u : Filled). length (u .area)) filled, area-long k part (omega (arith, part-long)), part-long))
+
+  -- the elements are kept with no bad key
+  front-kept : eqb (boundaryNumber ts) 0 ≡ true → front ≡ take (4 * k) s₀
+  front-kept q =
+      ap (λ (u : Filled). take (4 * k) (u .area)) filled
+      ∙ area-front k part (omega (arith, part-long)) (ap (λ (l : List Tet). eqb (boundaryNumber l) 0) part-tets ∙ q) ∙ part-front
 
   -- the area then
   abbrev s₁ : List ℕ
@@ -92,20 +102,20 @@ module _ (k g : ℕ) (s₀ f : List ℕ) (fit : areaFits k (36 * k) ≡ true) (r
   abbrev rest : List ℕ
   rest = zs ++ drop (36 * k - 0) s₀
 
-  given-is : s₁ ≡ take (4 * k) s₀ ++ (surfaceWords ts ++ rest)
+  given-is : s₁ ≡ front ++ (surfaceWords ts ++ rest)
   given-is =
       ap (λ (u : List ℕ). u ++ drop (36 * k - 0) s₀) area-is
-      ∙ append-assoc (take (4 * k) s₀) (surfaceWords ts ++ zs) (drop (36 * k - 0) s₀)
-      ∙ ap (λ (u : List ℕ). take (4 * k) s₀ ++ u) (append-assoc (surfaceWords ts) zs (drop (36 * k - 0) s₀))
+      ∙ append-assoc front (surfaceWords ts ++ zs) (drop (36 * k - 0) s₀)
+      ∙ ap (λ (u : List ℕ). front ++ u) (append-assoc (surfaceWords ts) zs (drop (36 * k - 0) s₀))
 
-  given-front : take (4 * k) s₁ ≡ take (4 * k) s₀
-  given-front = ap (take (4 * k)) given-is ∙ take-at (take (4 * k) s₀) (surfaceWords ts ++ rest) (4 * k) front-long
+  given-front : take (4 * k) s₁ ≡ front
+  given-front = ap (take (4 * k)) given-is ∙ take-at front (surfaceWords ts ++ rest) (4 * k) front-long
 
   given-drop : drop (4 * k) s₁ ≡ surfaceWords ts ++ rest
-  given-drop = ap (drop (4 * k)) given-is ∙ drop-at (take (4 * k) s₀) (surfaceWords ts ++ rest) (4 * k) front-long
+  given-drop = ap (drop (4 * k)) given-is ∙ drop-at front (surfaceWords ts ++ rest) (4 * k) front-long
 
   module _ (r : Outcome) (s : List ℕ) (hr : r ≡ keyedOutcome k g o s₁ f) (hs : Same s₁ s (36 * k + 3 * g) (length s₁)) where
-    front-is : take (4 * k) s ≡ take (4 * k) s₀
+    front-is : take (4 * k) s ≡ front
     front-is = part-same 0 s s₁ 0 (4 * k) (hs .long) (λ j a b. hs .before j (omega arith)) ∙ given-front
 
     -- with no bad key
@@ -136,7 +146,7 @@ module _ (k g : ℕ) (s₀ f : List ℕ) (fit : areaFits k (36 * k) ≡ true) (r
           ∙ ap (take (3 * c)) given-drop ∙ take-at (surfaceWords ts) rest (3 * c) count-is ∙ good-words ts q ∙ words-flat (boundaryOf ts)
 
       good : SurfaceEnded k g f s₀ s r
-      good = record { answer = answer-good; front = front-is; surface = λ z. surface-good }
+      good = record { answer = answer-good; front = λ z. front-is ∙ front-kept q; surface = λ z. surface-good }
 
     -- with a bad one
     bad : eqb (boundaryNumber ts) 0 ≡ false → SurfaceEnded k g f s₀ s r
@@ -144,7 +154,7 @@ module _ (k g : ℕ) (s₀ f : List ℕ) (fit : areaFits k (36 * k) ≡ true) (r
       answer =
           hr ∙ ap (λ (u : Outcome). keyedOutcome k g u s₁ f) (found-is ∙ bad-answer ts q)
           ∙ refused-answer (boundaryNumber ts) (length (boundaryOf ts)) q ∙ ap (λ (i : ℕ). answer i (length (boundaryOf ts))) (sym (bad-end (triples g f) ts q));
-      front = front-is;
+      front = λ z. absurd (eqb-false (boundaryNumber ts) 0 q (sym (bad-end (triples g f) ts q) ∙ z));
       surface = λ z. absurd (eqb-false (boundaryNumber ts) 0 q (sym (bad-end (triples g f) ts q) ∙ z));
     }
 

@@ -22,11 +22,11 @@ use Rattle.repair.specs.Flip.{sortedKeys, sameTriples, endNumber}
 use Rattle.repair.specs.Step.{elementWords, tripleWords, over}
 use Rattle.repair.specs.FlipEnd.{SurfaceEnded, EndRoom, flipEnd}
 use Rattle.repair.proofs.Laws.Site.Pass.{elements-front}
-use Rattle.repair.proofs.Laws.Finish.Whole.{refused-is, taken-zero}
 use Rattle.repair.proofs.Laws.Flip.Keys.{length-triples}
 use Rattle.repair.proofs.Laws.Flip.Surface.{same-many, sorted-many}
 use Rattle.repair.proofs.Laws.Flip.Ended.{good-end, bad-end}
 use Rattle.mesh.proofs.Laws.Intake.Reads.{length-tets}
+use Rattle.mesh.proofs.Laws.Boundary.Whole.{refused-is, taken-zero}
 
 -- a surface with the keys of those given has as many triples
 same-triples : (fs : List Triple) (ts : List Tet) → endNumber fs ts ≡ 0 → length (boundaryOf ts) ≡ length fs
@@ -62,7 +62,7 @@ module _ {k g : ℕ} (e f s₀ : List ℕ) {s : List ℕ} {r : Outcome} (room : 
     flip-done count nv e′ f′ he hf =
         let b = room .area in
         let z : eqb (endNumber (triples g f) (tets k s₀)) 0 ≡ true = eq-eqb (endNumber (triples g f) (tets k s₀)) 0 zero-end in
-        let p : e′ ≡ over (elementWords (tets k s₀)) e = he ∙ ap (λ (u : List ℕ). over u e) (E .front ∙ sym (elements-front k s₀ (omega arith))) in
+        let p : e′ ≡ over (elementWords (tets k s₀)) e = he ∙ ap (λ (u : List ℕ). over u e) (E .front zero-end ∙ sym (elements-front k s₀ (omega arith))) in
         let q : f′ ≡ over (tripleWords (boundaryOf (tets k s₀))) f =
         hf ∙ ap (λ (u : List ℕ). over u f) (ap (λ (n : ℕ). take (3 * n) (drop (4 * k) s)) count-is ∙ E .surface zero-end) in
         let n : k ≡ length (tets k s₀) = sym (length-tets k s₀) in

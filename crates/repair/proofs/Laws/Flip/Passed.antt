@@ -22,8 +22,7 @@ use Rattle.repair.specs.declared.answer.Answer.{Answer}
 use Rattle.repair.specs.declared.answer.Answer.the-variants.{Done}
 use Rattle.repair.specs.Mesh.{Mesh, made, refused}
 use Rattle.repair.specs.Flip as def
-use Rattle.repair.specs.Step.{State, Call, Pass, triplesOf, meshOf, floatsOf, elementWords, tripleWords, over, committed, resultOf, finish}
-use Rattle.repair.specs.Finish.{sizesAfter}
+use Rattle.repair.specs.Step.{State, Call, Pass, sizesAfter, triplesOf, meshOf, floatsOf, elementWords, tripleWords, over, committed, resultOf, finish}
 use Rattle.repair.specs.Fitting.{Fitting}
 use Rattle.repair.specs.FlipEnd.{flipEnd}
 use Rattle.repair.specs.FlipFitting.{FlipFitting, flipLast, flipWhole}
@@ -36,7 +35,7 @@ module _ (c : Call) (s : State) (work : List ℕ) (floats : List Float) (words :
   -- the buffers are as `flip` asks
   pub flip-fitting : (w : List ℕ) → w ≡ zeroWords (length work) → FlipFitting (s .sizes) (s .elements) (s .surface) w
   flip-fitting w z =
-      let f = fitting c s work floats words many number e passes w z in
+      let f = fitting c s work floats words many number e passes w z refl in
       record {
         vertices = f .vertices;
         elements = f .elements;

@@ -136,19 +136,10 @@ module _ (sizes : Sizes) (o : Options) (count : ℕ) (fields : List Field) (R : 
   abbrev number : ℕ
   number = intake (given (lengthsOf call (buffers P Q)) call (buffers P Q))
 
-  module _ (k : ℕ) (floats′ : List Float) (long : length floats′ ≡ length floats) (e : k ≡ intake (givenOf sizes o count fields P Q masks els surface work floats′)) where
+  module _ (k : ℕ) (e : k ≡ intake (givenOf sizes o count fields P Q masks els surface work floats)) where
     number-is : k ≡ number
     unfolding given givenOf meshOf
-    number-is = e ∙ ap (λ n. intake (record {
-      sizes = sizes;
-      lengths = record { parameters = length P; points = length Q; masks = length masks; elements = length els; surface = length surface; words = length work; floats = n };
-      options = o;
-      count = count;
-      fields = fields;
-      parameters = pointsOf (sizes .vertices) P;
-      points = pointsOf (sizes .vertices) Q;
-      elements = tets (sizes .elements) els;
-    })) long
+    number-is = e
 
     -- refused
     pub pass-refused : k ≢ 0 → _≡_ {A = Answer × Step.State} (Refused k, buffers P Q) (step call (buffers P Q))

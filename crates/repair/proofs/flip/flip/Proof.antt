@@ -5,6 +5,7 @@ use mathlib.Core.Option.{none}
 use lib.ListN.{length}
 use Rattle.mesh.specs.Words.{zeroWords}
 use Rattle.repair.specs.Step.{State, Call, Pass}
+use Rattle.repair.proofs.Laws.Answers.{in-numbers}
 use Rattle.repair.proofs.Laws.Entry.{call-refused, call-made, fitting}
 use Rattle.repair.proofs.Laws.Flip.Passed.{flip-fitting, flip-result, flip-finished}
 use Rattle.repair.proofs.flip.flip.Statement.{statement}
@@ -12,9 +13,6 @@ use Rattle.repair.proofs.flip.flip.Tie as tie
 
 intake-requires : tie.Need-intake-requires
 intake-requires c κs = search needs
-
-clear-floats-requires : tie.Need-clear-floats-requires
-clear-floats-requires c κs = search needs
 
 same-length : tie.Need-same-length
 same-length c = search needs
@@ -39,23 +37,22 @@ same-length-7 c = search needs
 
 returns : tie.Need-returns
 returns c =
-    let a = (c .before .before .before .before .before .before .before .before .before .before .before .before .before .before .before .before .before .before .before .before .before .before .args) in
+    let a = (c .before .before .before .before .before .before .before .before .before .before .before .before .before .before .before .before .before .before .before .before .args) in
     let k : Call = record { pass = Pass.flip; options = a .o; fields = a .fields; count = a .count; regions = none; words = length (a .work .now); floats = length (a .floats .now) } in
     let s : State = record { parameters = a .parameters .now; points = a .points .now; masks = a .masks .now; elements = a .elements .now; surface = a .surface .now; sizes = a .sizes } in
-    (call-refused k s (a .work .now) (a .floats .now) refl refl (c .before .before .before .before .before .before .before .intake .result) (c .before .before .before .before .before .before .before .intake .ensures .0) (c .before .before .before .before .if1 .taken), (c .before .before .before .before .before .before .before .intake .ensures .1, c .before .before .clear-floats .ensures))
+    let i = (c .before .before .before .before .before .intake) in
+    (in-numbers (call-refused k s (a .work .now) (a .floats .now) refl refl (i .result) (i .ensures .0) (c .if1 .taken)), i .ensures .1)
 
 flip-all-requires : tie.Need-flip-all-requires
 flip-all-requires c κs =
-    let a = (c .before .before .before .before .before .before .before .before .before .before .before .before .before .before .before .before .before .before .before .before .before .before .args) in
+    let a = (c .before .before .before .before .before .before .before .before .before .before .before .before .before .before .before .before .before .before .before .before .before .before .before .before .args) in
     let k : Call = record { pass = Pass.flip; options = a .o; fields = a .fields; count = a .count; regions = none; words = length (a .work .now); floats = length (a .floats .now) } in
     let s : State = record { parameters = a .parameters .now; points = a .points .now; masks = a .masks .now; elements = a .elements .now; surface = a .surface .now; sizes = a .sizes } in
-    flip-fitting k s (a .work .now) (a .floats .now) refl refl (c .before .before .before .before .before .before .before .intake .result) (c .before .before .before .before .before .before .before .intake .ensures .0) (c .before .before .before .before .if1 .left) _ (c .before .before .before .before .before .before .before .intake .ensures .1)
+    let i = (c .before .before .before .before .before .before .before .before .before .intake) in
+    flip-fitting k s (a .work .now) (a .floats .now) refl refl (i .result) (i .ensures .0) (c .before .before .before .before .if1 .left) _ (i .ensures .1 .0)
 
 clear-requires : tie.Need-clear-requires
 clear-requires c κs = search needs
-
-clear-floats-requires-2 : tie.Need-clear-floats-requires-2
-clear-floats-requires-2 c κs = search needs
 
 same-length-8 : tie.Need-same-length-8
 same-length-8 c = search needs
@@ -80,13 +77,14 @@ same-length-14 c = search needs
 
 returns-2 : tie.Need-returns-2
 returns-2 c =
-    let a = (c .before .before .before .before .before .before .before .before .before .before .before .before .before .before .before .before .before .before .before .before .before .before .before .before .before .before .before .before .before .before .before .before .before .before .before .before .before .args) in
+    let a = (c .before .before .before .before .before .before .before .before .before .before .before .before .before .before .before .before .before .before .before .before .before .before .before .before .before .before .before .before .before .before .before .before .before .before .before .args) in
     let k : Call = record { pass = Pass.flip; options = a .o; fields = a .fields; count = a .count; regions = none; words = length (a .work .now); floats = length (a .floats .now) } in
     let s : State = record { parameters = a .parameters .now; points = a .points .now; masks = a .masks .now; elements = a .elements .now; surface = a .surface .now; sizes = a .sizes } in
-    let f = fitting k s (a .work .now) (a .floats .now) refl refl (c .before .before .before .before .before .before .before .before .before .before .before .before .before .before .before .before .before .before .before .before .before .before .intake .result) (c .before .before .before .before .before .before .before .before .before .before .before .before .before .before .before .before .before .before .before .before .before .before .intake .ensures .0) (c .before .before .before .before .before .before .before .before .before .before .before .before .before .before .before .before .before .before .before .if1 .left) _ (c .before .before .before .before .before .before .before .before .before .before .before .before .before .before .before .before .before .before .before .before .before .before .intake .ensures .1) in (
-      flip-finished (a .o) s _ _ f (c .before .before .before .before .before .before .before .before .before .before .before .before .before .before .flip-all .result) _ _ (c .before .before .before .before .before .before .before .before .before .before .before .before .before .before .flip-all .ensures) ∙ flip-result k s refl
-          ∙ sym (call-made k s (a .work .now) (a .floats .now) refl refl (c .before .before .before .before .before .before .before .before .before .before .before .before .before .before .before .before .before .before .before .before .before .before .intake .result) (c .before .before .before .before .before .before .before .before .before .before .before .before .before .before .before .before .before .before .before .before .before .before .intake .ensures .0) (c .before .before .before .before .before .before .before .before .before .before .before .before .before .before .before .before .before .before .before .if1 .left)),
-      (c .before .before .before .before .before .before .clear .ensures ∙ ap zeroWords (c .before .before .before .before .before .before .before .before .before .before .before .before .before .before .flip-all .kept .1 .1 .1 .1 .0 ∙ c .before .before .before .before .before .before .before .before .before .before .before .before .before .before .before .before .before .before .before .before .before .before .intake .kept .1 .1 .1 .1 .1 .1 .1 .1 .1 .0), c .before .before .clear-floats2 .ensures),
+    let i = (c .before .before .before .before .before .before .before .before .before .before .before .before .before .before .before .before .before .before .before .before .intake) in
+    let m = (c .before .before .before .before .before .before .before .before .before .before .flip-all) in
+    let f = fitting k s (a .work .now) (a .floats .now) refl refl (i .result) (i .ensures .0) (c .before .before .before .before .before .before .before .before .before .before .before .before .before .before .before .if1 .left) _ (i .ensures .1 .0) refl in (
+      in-numbers (flip-finished (a .o) s _ _ f (m .result) _ _ (m .ensures) ∙ flip-result k s refl ∙ sym (call-made k s (a .work .now) (a .floats .now) refl refl (i .result) (i .ensures .0) (c .before .before .before .before .before .before .before .before .before .before .before .before .before .before .before .if1 .left))),
+      (c .before .before .clear .ensures ∙ ap zeroWords (m .kept .1 .1 .1 .1 .0 ∙ i .kept .1 .1 .1 .1 .1 .1 .1 .1 .1 .0), i .ensures .1 .1),
     )
 
 pub flip-spec : {M : Type 1} → statement M
@@ -94,7 +92,6 @@ flip-spec =
     tie.close
     (tie.spec
     intake-requires
-    clear-floats-requires
     same-length
     same-length-2
     same-length-3
@@ -105,7 +102,6 @@ flip-spec =
     returns
     flip-all-requires
     clear-requires
-    clear-floats-requires-2
     same-length-8
     same-length-9
     same-length-10
