@@ -27,8 +27,7 @@ use Rattle.mesh.proofs.Laws.Boundary.Faces.{tets-kept}
 use Rattle.repair.specs.declared.answer.Answer.{Answer}
 use Rattle.repair.specs.declared.answer.Answer.the-variants.{Done, Refused}
 use Rattle.repair.specs.Mesh.{Result, made, refused}
-use Rattle.repair.specs.Finish.{sizesAfter}
-use Rattle.repair.specs.Step.{State, Call, Pass, elementWords, committed, lengthsOf, given, meshOf, resultOf, finish, step}
+use Rattle.repair.specs.Step.{State, Call, Pass, sizesAfter, elementWords, committed, lengthsOf, given, meshOf, resultOf, finish, step}
 use Rattle.report.specs.Table.{refusedText}
 use Rattle.report.specs.Written.{Written, Roomy}
 use Rattle.report.specs.Report.{Setting, callOf, after, called, printed, fromFlip, fromSmooth, fromImprove}

@@ -3,6 +3,7 @@ use mathlib.Core.Path.{refl}
 use native.Mathlib.Omega.{arith}
 use lib.ListN.{length}
 use Rattle.repair.specs.Step.{Pass, meshOf}
+use Rattle.repair.proofs.Laws.Answers.{from-numbers}
 use Rattle.report.specs.Report.{callOf}
 use Rattle.report.proofs.Laws.Passes.{roomy-kept, done-room, done-sizes, flip-done, flip-refused}
 use Rattle.report.proofs.Laws.Counted.{done-proper}
@@ -18,7 +19,7 @@ enum-known-answer c = search needs
 
 print-table-requires : tie.Need-print-table-requires
 unfolding meshOf
-print-table-requires c κs = let a = (c .before .before .before .before .before .before .before .before .before .before .before .before .before .before .before .before .before .before .before .before .before .before .before .before .before .before .before .before .before .before .before .before .before .before .before .before .before .args) in let d = done-sizes (a .sizes) (c .before .before .before .before .before .before .before .before .before .before .before .before .before .before .before .before .before .before .before .before .before .flip .ensures .0) (c .before .before .before .before .before .answer .given .1) in (roomy-kept ((c .before .before .before .before .before .before .before .before .before .before .before .before .before .before .before .before .before .before .before .before .before .before .before .before .before .before .before .before .before .before .before .before .before .before .before .before .before .pre)) (c .before .before .before .before .before .before .before .before .before .before .before .before .before .before .before .before .before .before .before .before .before .flip .kept .1 .1 .1 .1 .1 .1 .1 .0) (c .before .before .before .before .before .before .before .before .before .before .before .before .before .before .before .before .before .before .before .before .before .flip .kept .1 .1 .1 .1 .1 .1 .1 .1 .1 .0), done-room (callOf (record { options = a .o; fields = a .fields; count = a .count; words = length (a .work .now); floats = length (a .floats .now) }) Pass.flip) (record { parameters = a .parameters .now; points = a .points .now; masks = a .masks .now; elements = a .elements .now; surface = a .surface .now; sizes = a .sizes }) _ _ _ _ d refl, done-proper (record { options = a .o; fields = a .fields; count = a .count; words = length (a .work .now); floats = length (a .floats .now) }) (record { parameters = a .parameters .now; points = a .points .now; masks = a .masks .now; elements = a .elements .now; surface = a .surface .now; sizes = a .sizes }) _ _ _ _ d refl)
+print-table-requires c κs = let a = (c .before .before .before .before .before .before .before .before .before .before .before .before .before .before .before .before .before .before .before .before .before .before .before .before .before .before .before .before .before .before .before .before .before .before .before .before .before .args) in let d = done-sizes (a .sizes) (from-numbers (c .before .before .before .before .before .before .before .before .before .before .before .before .before .before .before .before .before .before .before .before .before .flip .result) (c .before .before .before .before .before .before .before .before .before .before .before .before .before .before .before .before .before .before .before .before .before .flip .ensures .0)) (c .before .before .before .before .before .answer .given .1) in (roomy-kept ((c .before .before .before .before .before .before .before .before .before .before .before .before .before .before .before .before .before .before .before .before .before .before .before .before .before .before .before .before .before .before .before .before .before .before .before .before .before .pre)) (c .before .before .before .before .before .before .before .before .before .before .before .before .before .before .before .before .before .before .before .before .before .flip .kept .1 .1 .1 .1 .1 .1 .1 .0) (c .before .before .before .before .before .before .before .before .before .before .before .before .before .before .before .before .before .before .before .before .before .flip .kept .1 .1 .1 .1 .1 .1 .1 .1 .1 .0), done-room (callOf (record { options = a .o; fields = a .fields; count = a .count; words = length (a .work .now); floats = length (a .floats .now) }) Pass.flip) (record { parameters = a .parameters .now; points = a .points .now; masks = a .masks .now; elements = a .elements .now; surface = a .surface .now; sizes = a .sizes }) _ _ _ _ d refl, done-proper (record { options = a .o; fields = a .fields; count = a .count; words = length (a .work .now); floats = length (a .floats .now) }) (record { parameters = a .parameters .now; points = a .points .now; masks = a .masks .now; elements = a .elements .now; surface = a .surface .now; sizes = a .sizes }) _ _ _ _ d refl)
 
 enum-known-answer-2 : tie.Need-enum-known-answer-2
 enum-known-answer-2 c = search needs
@@ -55,7 +56,7 @@ same-length-8 c = search needs
 
 returns : tie.Need-returns
 unfolding meshOf
-returns c = let a = (c .before .before .before .before .before .before .before .before .before .before .before .before .before .before .before .before .before .before .before .before .before .before .before .before .before .before .before .before .before .before .before .before .before .before .before .before .before .before .before .before .before .before .args) in (flip-done (record { options = a .o; fields = a .fields; count = a .count; words = length (a .work .now); floats = length (a .floats .now) }) (record { parameters = a .parameters .now; points = a .points .now; masks = a .masks .now; elements = a .elements .now; surface = a .surface .now; sizes = a .sizes }) _ _ (a .collapsed) (a .moved) _ _ (done-sizes (a .sizes) (c .before .before .before .before .before .before .before .before .before .before .before .before .before .before .before .before .before .before .before .before .before .before .before .before .before .before .flip .ensures .0) (c .before .before .before .before .before .before .before .before .before .before .answer .given .1)) refl (c .before .before .before .before .print-table .ensures .0), c .before .before .before .before .print-table .ensures .1)
+returns c = let a = (c .before .before .before .before .before .before .before .before .before .before .before .before .before .before .before .before .before .before .before .before .before .before .before .before .before .before .before .before .before .before .before .before .before .before .before .before .before .before .before .before .before .before .args) in (flip-done (record { options = a .o; fields = a .fields; count = a .count; words = length (a .work .now); floats = length (a .floats .now) }) (record { parameters = a .parameters .now; points = a .points .now; masks = a .masks .now; elements = a .elements .now; surface = a .surface .now; sizes = a .sizes }) _ _ (a .collapsed) (a .moved) _ _ (done-sizes (a .sizes) (from-numbers (c .before .before .before .before .before .before .before .before .before .before .before .before .before .before .before .before .before .before .before .before .before .before .before .before .before .before .flip .result) (c .before .before .before .before .before .before .before .before .before .before .before .before .before .before .before .before .before .before .before .before .before .before .before .before .before .before .flip .ensures .0)) (c .before .before .before .before .before .before .before .before .before .before .answer .given .1)) refl (c .before .before .before .before .print-table .ensures .0), c .before .before .before .before .print-table .ensures .1)
 
 same-length-9 : tie.Need-same-length-9
 same-length-9 c = search needs
@@ -82,7 +83,7 @@ same-length-16 : tie.Need-same-length-16
 same-length-16 c = search needs
 
 returns-2 : tie.Need-returns-2
-returns-2 c = let a = (c .before .before .before .before .before .before .before .before .before .before .before .before .before .before .before .before .before .before .before .before .before .before .before .before .before .before .before .before .before .before .before .before .before .before .before .before .before .args) in (flip-refused (record { options = a .o; fields = a .fields; count = a .count; words = length (a .work .now); floats = length (a .floats .now) }) (record { parameters = a .parameters .now; points = a .points .now; masks = a .masks .now; elements = a .elements .now; surface = a .surface .now; sizes = a .sizes }) _ _ (a .collapsed) (a .moved) _ (c .before .before .before .before .before .before .before .before .before .before .before .before .before .before .before .before .before .before .before .before .before .flip .ensures .0) (c .before .before .before .before .before .answer2 .given .1) (c .before .before .refused-text .ensures .0), omega (arith, c .before .before .refused-text .ensures .1))
+returns-2 c = let a = (c .before .before .before .before .before .before .before .before .before .before .before .before .before .before .before .before .before .before .before .before .before .before .before .before .before .before .before .before .before .before .before .before .before .before .before .before .before .args) in (flip-refused (record { options = a .o; fields = a .fields; count = a .count; words = length (a .work .now); floats = length (a .floats .now) }) (record { parameters = a .parameters .now; points = a .points .now; masks = a .masks .now; elements = a .elements .now; surface = a .surface .now; sizes = a .sizes }) _ _ (a .collapsed) (a .moved) _ (from-numbers (c .before .before .before .before .before .before .before .before .before .before .before .before .before .before .before .before .before .before .before .before .before .flip .result) (c .before .before .before .before .before .before .before .before .before .before .before .before .before .before .before .before .before .before .before .before .before .flip .ensures .0)) (c .before .before .before .before .before .answer2 .given .1) (c .before .before .refused-text .ensures .0), omega (arith, c .before .before .refused-text .ensures .1))
 
 pub from-flip-spec : {M : Type 1} → statement M
 from-flip-spec =

@@ -2,6 +2,7 @@
 use mathlib.Core.Path.{refl, _∙_}
 use native.Mathlib.Omega.{arith}
 use lib.ListN.{length}
+use Rattle.repair.proofs.Laws.Answers.{from-numbers}
 use Rattle.report.proofs.Laws.Passes.{roomy-kept, done-sizes, improve-done, improve-refused}
 use borrow.Author.Needs.{needs}
 use Rattle.report.proofs.passes.from_improve.Statement.{statement}
@@ -50,7 +51,7 @@ same-length-8 : tie.Need-same-length-8
 same-length-8 c = c .before .before .before .before .before .before .before .before .before .before .before .before .before .before .before .before .from-smooth .kept .1 .1 .1 .1 .1 .1 .1 .1 .1 .1 .1 .1 .0 ∙ c .before .before .before .before .before .before .before .before .before .before .before .before .before .before .before .before .before .before .before .before .before .before .before .before .before .before .before .before .before .before .before .before .before .before .before .before .before .before .before .before .before .before .improve .kept .1 .1 .1 .1 .1 .1 .1 .1 .1 .1 .0
 
 returns : tie.Need-returns
-returns c = let a = (c .before .before .before .before .before .before .before .before .before .before .before .before .before .before .before .before .before .before .before .before .before .before .before .before .before .before .before .before .before .before .before .before .before .before .before .before .before .before .before .before .before .before .before .before .before .before .before .before .before .before .before .before .before .before .before .before .before .before .args) in (improve-done (record { options = a .o; fields = a .fields; count = a .count; words = length (a .work .now); floats = length (a .floats .now) }) (record { parameters = a .parameters .now; points = a .points .now; masks = a .masks .now; elements = a .elements .now; surface = a .surface .now; sizes = a .sizes }) _ _ _ _ (done-sizes (a .sizes) (c .before .before .before .before .before .before .before .before .before .before .before .before .before .before .before .before .before .before .before .before .before .before .before .before .before .before .before .before .before .before .before .before .before .before .before .before .before .before .before .before .before .before .improve .ensures .0) (c .before .before .before .before .before .before .before .before .before .before .before .before .before .before .before .before .before .before .before .before .before .before .before .before .before .before .answer .given .1)) refl (rw (c .before .before .before .before .before .before .before .before .before .before .before .before .before .before .before .before .before .before .before .before .before .before .before .before .before .before .before .before .before .before .before .before .before .before .before .before .before .before .before .before .before .before .improve .kept .1 .1 .1 .1 .1 .1 .1 .1 .1 .0, c .before .before .before .before .before .before .before .before .before .before .before .before .before .before .before .before .before .before .before .before .before .before .before .before .before .before .before .before .before .before .before .before .before .before .before .before .before .before .before .before .before .before .improve .kept .1 .1 .1 .1 .1 .1 .1 .1 .1 .1 .0) at (c .before .before .before .before .before .before .before .before .before .before .before .before .before .before .before .before .from-smooth .ensures .0)), c .before .before .before .before .before .before .before .before .before .before .before .before .before .before .before .before .from-smooth .ensures .1)
+returns c = let a = (c .before .before .before .before .before .before .before .before .before .before .before .before .before .before .before .before .before .before .before .before .before .before .before .before .before .before .before .before .before .before .before .before .before .before .before .before .before .before .before .before .before .before .before .before .before .before .before .before .before .before .before .before .before .before .before .before .before .before .args) in (improve-done (record { options = a .o; fields = a .fields; count = a .count; words = length (a .work .now); floats = length (a .floats .now) }) (record { parameters = a .parameters .now; points = a .points .now; masks = a .masks .now; elements = a .elements .now; surface = a .surface .now; sizes = a .sizes }) _ _ _ _ (done-sizes (a .sizes) (from-numbers (c .before .before .before .before .before .before .before .before .before .before .before .before .before .before .before .before .before .before .before .before .before .before .before .before .before .before .before .before .before .before .before .before .before .before .before .before .before .before .before .before .before .before .improve .result) (c .before .before .before .before .before .before .before .before .before .before .before .before .before .before .before .before .before .before .before .before .before .before .before .before .before .before .before .before .before .before .before .before .before .before .before .before .before .before .before .before .before .before .improve .ensures .0)) (c .before .before .before .before .before .before .before .before .before .before .before .before .before .before .before .before .before .before .before .before .before .before .before .before .before .before .answer .given .1)) refl (rw (c .before .before .before .before .before .before .before .before .before .before .before .before .before .before .before .before .before .before .before .before .before .before .before .before .before .before .before .before .before .before .before .before .before .before .before .before .before .before .before .before .before .before .improve .kept .1 .1 .1 .1 .1 .1 .1 .1 .1 .0, c .before .before .before .before .before .before .before .before .before .before .before .before .before .before .before .before .before .before .before .before .before .before .before .before .before .before .before .before .before .before .before .before .before .before .before .before .before .before .before .before .before .before .improve .kept .1 .1 .1 .1 .1 .1 .1 .1 .1 .1 .0) at (c .before .before .before .before .before .before .before .before .before .before .before .before .before .before .before .before .from-smooth .ensures .0)), c .before .before .before .before .before .before .before .before .before .before .before .before .before .before .before .before .from-smooth .ensures .1)
 
 same-length-9 : tie.Need-same-length-9
 same-length-9 c = search needs
@@ -77,7 +78,7 @@ same-length-16 : tie.Need-same-length-16
 same-length-16 c = search needs
 
 returns-2 : tie.Need-returns-2
-returns-2 c = let a = (c .before .before .before .before .before .before .before .before .before .before .before .before .before .before .before .before .before .before .before .before .before .before .before .before .before .before .before .before .before .before .before .before .before .before .before .before .before .args) in (improve-refused (record { options = a .o; fields = a .fields; count = a .count; words = length (a .work .now); floats = length (a .floats .now) }) (record { parameters = a .parameters .now; points = a .points .now; masks = a .masks .now; elements = a .elements .now; surface = a .surface .now; sizes = a .sizes }) _ _ _ (c .before .before .before .before .before .before .before .before .before .before .before .before .before .before .before .before .before .before .before .before .before .improve .ensures .0) (c .before .before .before .before .before .answer2 .given .1) (c .before .before .refused-text .ensures .0), omega (arith, c .before .before .refused-text .ensures .1))
+returns-2 c = let a = (c .before .before .before .before .before .before .before .before .before .before .before .before .before .before .before .before .before .before .before .before .before .before .before .before .before .before .before .before .before .before .before .before .before .before .before .before .before .args) in (improve-refused (record { options = a .o; fields = a .fields; count = a .count; words = length (a .work .now); floats = length (a .floats .now) }) (record { parameters = a .parameters .now; points = a .points .now; masks = a .masks .now; elements = a .elements .now; surface = a .surface .now; sizes = a .sizes }) _ _ _ (from-numbers (c .before .before .before .before .before .before .before .before .before .before .before .before .before .before .before .before .before .before .before .before .before .improve .result) (c .before .before .before .before .before .before .before .before .before .before .before .before .before .before .before .before .before .before .before .before .before .improve .ensures .0)) (c .before .before .before .before .before .answer2 .given .1) (c .before .before .refused-text .ensures .0), omega (arith, c .before .before .refused-text .ensures .1))
 
 pub from-improve-spec : {M : Type 1} → statement M
 from-improve-spec =
