@@ -1,20 +1,14 @@
 -- What a caller gets from a pass and from the boundary: the number returned and what every lent buffer holds afterwards. Definitions only.
 use Prim.Native.Nat.{ℕ}
-use mathlib.Core.List.{List, [], _∷_}
+use mathlib.Core.List.{List}
 use lib.Ieee.{Float}
 use Rattle.mesh.specs.Words.{zeroWords, zeroFloats}
 use Rattle.mesh.specs.Intake.{refusalOf}
 use Rattle.mesh.specs.Surface as surface
 use Rattle.repair.specs.declared.answer.Answer.{Answer}
-use Rattle.repair.specs.declared.answer.Answer.the-variants.{Done, Refused}
-use Rattle.repair.specs.Step.{State, Call, step, numberOf}
+use Rattle.repair.specs.Step.{State, Call, step, numberOf, valuesOf, over}
 
 -- ---- a pass
-
--- the four places of a result: the count and the three sizes, and zeros after a refusal, which "returns its number alone"
-abbrev pub resultOf : Answer → List ℕ
-resultOf (Done count sizes) = count ∷ sizes .vertices ∷ sizes .elements ∷ sizes .triples ∷ []
-resultOf (Refused number) = 0 ∷ 0 ∷ 0 ∷ 0 ∷ []
 
 -- the number returned, the result's places, the mesh buffers and both work slices
 pub record Returned : Type 0 where
@@ -28,11 +22,12 @@ pub record Returned : Type 0 where
   pub words : List ℕ
   pub floats : List Float
 
--- an answer and a mesh, with zeros in work slices of w words and f floats
+-- an answer and a mesh, with zeros in work slices of w words and f floats. The four places of a result have its values, and zeros after a
+-- refusal, which "returns its number alone"
 abbrev pub returned : ℕ → ℕ → Answer × State → Returned
 returned w f r = record {
   number = numberOf (r .0);
-  result = resultOf (r .0);
+  result = over (valuesOf (r .0)) (zeroWords 4);
   parameters = r .1 .parameters;
   points = r .1 .points;
   masks = r .1 .masks;

@@ -16,14 +16,15 @@ ghost use mathlib.Core.Option.{none};
 ghost use Prim.Native.Nat.{ℕ};
 ghost use lib.Dec.{eqb};
 ghost use lib.ListN.{length};
-ghost use Rattle.repair.specs.Step.{Pass, numberOf};
+ghost use Rattle.mesh.specs.Words.{zeroWords};
+ghost use Rattle.repair.specs.Step.{Pass, numberOf, valuesOf, over};
 ghost use Rattle.repair.specs.Regions.{regionsOf};
 ghost use Rattle.interface.specs.Arrays.{fieldsOf, optionsOf, sizesOf};
-ghost use Rattle.interface.specs.Called.{Returned, called, resultOf};
+ghost use Rattle.interface.specs.Called.{Returned, called};
 
 // Puts the result's four places and gives the number.
 fn put_answer(to: &mut [usize; 4], given: Answer) -> u32
-    ensures { λ r. ⌜ _≡_ {A = ℕ × List ℕ} (r, now (to .exit)) (numberOf given, resultOf given) ⌝ }
+    ensures { λ r. ⌜ _≡_ {A = ℕ × List ℕ} (r, now (to .exit)) (numberOf given, over (valuesOf given) (zeroWords 4)) ⌝ }
 {
     match given {
         Answer::Done { count, sizes } => {

@@ -12,8 +12,8 @@ use Rattle.mesh.specs.Words.{zeroWords, zeroFloats}
 use Rattle.mesh.specs.Intake.{refusalOf}
 use Rattle.mesh.specs.Surface as surface
 use Rattle.repair.specs.declared.answer.Answer.{Answer}
-use Rattle.repair.specs.Step.{State, Pass, step, numberOf}
-use Rattle.interface.specs.Called.{Returned, returned, resultOf, called, Bounded, bounded}
+use Rattle.repair.specs.Step.{State, Pass, step, numberOf, valuesOf, over}
+use Rattle.interface.specs.Called.{Returned, returned, called, Bounded, bounded}
 
 -- a pass called with options, fields and sizes that equal those of the contract
 pub called-by : (pass : Pass) (o : Options) (fs : List Field) (n : ℕ) (r : Option (List ℕ)) (w f : ℕ) (p q : List Float) (m e t : List ℕ) (z : Sizes)
@@ -22,7 +22,7 @@ pub called-by : (pass : Pass) (o : Options) (fs : List Field) (n : ℕ) (r : Opt
     → _≡_ {A = Answer × State} (a, record { parameters = p₁; points = q₁; masks = m₁; elements = e₁; surface = t₁; sizes = x })
     (step (record { pass = pass; options = b; fields = gs; count = n; regions = r; words = w; floats = f }) (record { parameters = p; points = q; masks = m; elements = e; surface = t; sizes = y }))
     → ws ≡ zeroWords w → xs ≡ zeroFloats f
-    → _≡_ {A = ℕ × List ℕ} (k, l) (numberOf a, resultOf a)
+    → _≡_ {A = ℕ × List ℕ} (k, l) (numberOf a, over (valuesOf a) (zeroWords 4))
     → _≡_ {A = Returned} (record { number = k; result = l; parameters = p₁; points = q₁; masks = m₁; elements = e₁; surface = t₁; words = ws; floats = xs })
     (called (record { pass = pass; options = o; fields = fs; count = n; regions = r; words = w; floats = f }) (record { parameters = p; points = q; masks = m; elements = e; surface = t; sizes = z }))
 called-by pass o fs n r w f p q m e t z h i j d u v g =

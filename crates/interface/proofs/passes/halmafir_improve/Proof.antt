@@ -2,6 +2,7 @@
 use lib.ListN.{length}
 use mathlib.Core.Option.{none}
 use Rattle.repair.specs.Step.{Pass}
+use Rattle.repair.proofs.Laws.Answers.{from-numbers}
 use Rattle.interface.specs.Arrays.{fieldsOf, optionsOf, sizesOf}
 use Rattle.interface.proofs.Laws.Called.{called-by}
 use borrow.Author.Needs.{needs}
@@ -45,7 +46,7 @@ same-length-7 : tie.Need-same-length-7
 same-length-7 c = search needs
 
 returns : tie.Need-returns
-returns c = let a = (c .before .before .before .before .before .before .before .before .before .before .before .before .before .before .before .before .before .before .before .before .before .before .before .before .before .before .before .before .before .before .before .before .before .before .args) in called-by Pass.improve (optionsOf (a .sides .now) (a .settings .now)) (fieldsOf (a .kinds .now) (a .numbers .now)) (a .count) none (length (a .words .now)) (length (a .floats .now)) (a .parameters .now) (a .points .now) (a .masks .now) (a .elements .now) (a .surface .now) (sizesOf (a .sizes .now)) (c .before .before .before .before .before .before .before .before .before .before .before .before .before .before .before .before .before .before .before .before .before .before .before .before .before .before .options-of .ensures) (c .before .before .before .before .before .before .before .before .before .before .before .before .before .before .before .before .before .before .before .before .before .before .before .before .before .fields-of .ensures) (c .before .before .before .before .before .before .before .before .before .before .before .before .before .before .before .before .before .before .before .before .before .before .before .before .sizes-of .ensures) (c .before .before .before .before .before .before .before .before .before .before .before .before .before .before .before .before .improve .ensures .0) (c .before .before .before .before .before .before .before .before .before .before .before .before .before .before .before .before .improve .ensures .1 .0) (c .before .before .before .before .before .before .before .before .before .before .before .before .before .before .before .before .improve .ensures .1 .1) (c .put-answer .ensures)
+returns c = let a = (c .before .before .before .before .before .before .before .before .before .before .before .before .before .before .before .before .before .before .before .before .before .before .before .before .before .before .before .before .before .before .before .before .before .before .args) in called-by Pass.improve (optionsOf (a .sides .now) (a .settings .now)) (fieldsOf (a .kinds .now) (a .numbers .now)) (a .count) none (length (a .words .now)) (length (a .floats .now)) (a .parameters .now) (a .points .now) (a .masks .now) (a .elements .now) (a .surface .now) (sizesOf (a .sizes .now)) (c .before .before .before .before .before .before .before .before .before .before .before .before .before .before .before .before .before .before .before .before .before .before .before .before .before .before .options-of .ensures) (c .before .before .before .before .before .before .before .before .before .before .before .before .before .before .before .before .before .before .before .before .before .before .before .before .before .fields-of .ensures) (c .before .before .before .before .before .before .before .before .before .before .before .before .before .before .before .before .before .before .before .before .before .before .before .before .sizes-of .ensures) (from-numbers (c .before .before .before .before .before .before .before .before .before .before .before .before .before .before .before .before .improve .result) (c .before .before .before .before .before .before .before .before .before .before .before .before .before .before .before .before .improve .ensures .0)) (c .before .before .before .before .before .before .before .before .before .before .before .before .before .before .before .before .improve .ensures .1 .0) (c .before .before .before .before .before .before .before .before .before .before .before .before .before .before .before .before .improve .ensures .1 .1) (c .put-answer .ensures)
 
 pub halmafir-improve-spec : {M : Type 1} → statement M
 halmafir-improve-spec =

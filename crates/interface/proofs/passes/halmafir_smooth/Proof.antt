@@ -4,6 +4,7 @@ use lib.Dec.{eqb}
 use mathlib.Core.Bool.{not}
 use Rattle.repair.specs.Step.{Pass}
 use Rattle.repair.specs.Regions.{regionsOf}
+use Rattle.repair.proofs.Laws.Answers.{from-numbers}
 use Rattle.interface.specs.Arrays.{fieldsOf, optionsOf, sizesOf}
 use Rattle.interface.proofs.Laws.Called.{called-by}
 use borrow.Author.Needs.{needs}
@@ -38,7 +39,7 @@ same-length-4 : tie.Need-same-length-4
 same-length-4 c = search needs
 
 returns : tie.Need-returns
-returns c = let a = (c .before .before .before .before .before .before .before .before .before .before .before .before .before .before .before .before .before .before .before .before .before .before .before .before .before .before .args) in called-by Pass.smooth (optionsOf (a .sides .now) (a .settings .now)) (fieldsOf (a .kinds .now) (a .numbers .now)) (a .count) (regionsOf (not (eqb (a .listed) 0)) (a .regions .now)) (length (a .words .now)) (length (a .floats .now)) (a .parameters .now) (a .points .now) (a .masks .now) (a .elements .now) (a .surface .now) (sizesOf (a .sizes .now)) (c .before .before .before .before .before .before .before .before .before .before .before .before .before .before .before .before .before .options-of .ensures) (c .before .before .before .before .before .before .before .before .before .before .before .before .before .before .before .before .fields-of .ensures) (c .before .before .before .before .before .before .before .before .before .before .before .before .before .before .before .sizes-of .ensures) (c .before .before .before .before .before .before .before .before .before .before .smooth .ensures .0) (c .before .before .before .before .before .before .before .before .before .before .smooth .ensures .1 .0) (c .before .before .before .before .before .before .before .before .before .before .smooth .ensures .1 .1) (c .put-answer .ensures)
+returns c = let a = (c .before .before .before .before .before .before .before .before .before .before .before .before .before .before .before .before .before .before .before .before .before .before .before .before .before .before .args) in called-by Pass.smooth (optionsOf (a .sides .now) (a .settings .now)) (fieldsOf (a .kinds .now) (a .numbers .now)) (a .count) (regionsOf (not (eqb (a .listed) 0)) (a .regions .now)) (length (a .words .now)) (length (a .floats .now)) (a .parameters .now) (a .points .now) (a .masks .now) (a .elements .now) (a .surface .now) (sizesOf (a .sizes .now)) (c .before .before .before .before .before .before .before .before .before .before .before .before .before .before .before .before .before .options-of .ensures) (c .before .before .before .before .before .before .before .before .before .before .before .before .before .before .before .before .fields-of .ensures) (c .before .before .before .before .before .before .before .before .before .before .before .before .before .before .before .sizes-of .ensures) (from-numbers (c .before .before .before .before .before .before .before .before .before .before .smooth .result) (c .before .before .before .before .before .before .before .before .before .before .smooth .ensures .0)) (c .before .before .before .before .before .before .before .before .before .before .smooth .ensures .1 .0) (c .before .before .before .before .before .before .before .before .before .before .smooth .ensures .1 .1) (c .put-answer .ensures)
 
 pub halmafir-smooth-spec : {M : Type 1} → statement M
 halmafir-smooth-spec =
