@@ -13,7 +13,7 @@ ghost use mathlib.Core.List.{List};
 ghost use Prim.Native.Nat.{ℕ, _*_, _/_};
 ghost use lib.Ieee.{Float};
 ghost use lib.ListN.{length, take};
-ghost use Rattle.mesh.specs.Words.{pointsOf, copied, zeroWords};
+ghost use Rattle.mesh.specs.Words.{pointsOf, copied, zeroWords, zeroFloats};
 ghost use Rattle.mesh.specs.Intake.{intake, givenOf};
 ghost use Rattle.mesh.specs.LinkRows.{stratumOf, linkOkIn};
 ghost use Rattle.repair.specs.Project.{project};
@@ -103,7 +103,7 @@ pub extern "C" fn h_link(
     0
 }
 
-// Intake's number for a mesh and the other inputs of a pass, for measurements.
+// Intake's number for a mesh and the other inputs of a pass, for measurements. Both work slices are all zeros afterwards.
 #[no_mangle]
 pub extern "C" fn h_intake(
     parameters: &[f64],
@@ -118,11 +118,12 @@ pub extern "C" fn h_intake(
     kinds: &[u32; 8],
     numbers: &[f64; 32],
     words: &mut [u32],
-    floats: &[f64],
+    floats: &mut [f64],
 ) -> u32
     ensures { λ r. ⌜ r ≡ intake (givenOf (sizesOf (now (sizes .entry))) (optionsOf (now (sides .entry)) (now (settings .entry))) count (fieldsOf (now (kinds .entry)) (now (numbers .entry)))
         (now (parameters .entry)) (now (points .entry)) (now (masks .entry)) (now (elements .entry)) (now (surface .entry)) (now (words .entry)) (now (floats .entry))) ⌝ }
     ensures { λ _. ⌜ now (words .exit) ≡ zeroWords (length (now (words .entry))) ⌝ }
+    ensures { λ _. ⌜ now (floats .exit) ≡ zeroFloats (length (now (floats .entry))) ⌝ }
 {
     let o = options_of(sides, settings);
     let f = fields_of(kinds, numbers);

@@ -108,9 +108,9 @@ fn port(mesh: &mut Mesh, call: &Call) -> (Duration, Answer) {
 
 fn intake(mesh: &Mesh, call: &Call) -> (Duration, u32) {
     let mut words = vec![1; call.words];
-    let floats = vec![1.; call.floats];
+    let mut floats = vec![1.; call.floats];
     let clock = Instant::now();
-    let given = passes::intake(mesh, call, &mut words, &floats);
+    let given = passes::intake(mesh, call, &mut words, &mut floats);
     (clock.elapsed(), given)
 }
 

@@ -45,7 +45,7 @@ unsafe extern "C" {
         kinds: &[u32; 8],
         numbers: &[f64; 32],
         words: *mut u32, words_len: usize,
-        floats: *const f64, floats_len: usize,
+        floats: *mut f64, floats_len: usize,
     ) -> u32;
 }
 
@@ -55,7 +55,7 @@ fn plain_sizes(n: Sizes) -> [usize; 3] {
 
 /// The port's intake alone.
 #[rustfmt::skip]
-pub fn intake(mesh: &Mesh, call: &Call, words: &mut [u32], floats: &[f64]) -> u32 {
+pub fn intake(mesh: &Mesh, call: &Call, words: &mut [u32], floats: &mut [f64]) -> u32 {
     let plain = Plain::new(call);
     // Each pointer is that of a live buffer of the length beside it.
     unsafe {
@@ -72,7 +72,7 @@ pub fn intake(mesh: &Mesh, call: &Call, words: &mut [u32], floats: &[f64]) -> u3
             &plain.kinds,
             &plain.numbers,
             words.as_mut_ptr(), words.len(),
-            floats.as_ptr(), floats.len(),
+            floats.as_mut_ptr(), floats.len(),
         )
     }
 }

@@ -32,8 +32,11 @@ intake-requires c κs = search needs
 same-length : tie.Need-same-length
 same-length c = search needs
 
+same-length-2 : tie.Need-same-length-2
+same-length-2 c = search needs
+
 returns : tie.Need-returns
-returns c = let a = (c .before .before .before .before .before .before .before .before .before .before .before .before .before .before .args) in (intake-by (sizesOf (a .sizes .now)) (optionsOf (a .sides .now) (a .settings .now)) (a .count) (fieldsOf (a .kinds .now) (a .numbers .now)) (a .parameters .now) (a .points .now) (a .masks .now) (a .elements .now) (a .surface .now) (a .words .now) (a .floats .now) (c .before .before .intake .ensures .0) (c .before .before .before .before .sizes-of .ensures) (c .before .before .before .before .before .before .options-of .ensures) (c .before .before .before .before .before .fields-of .ensures), c .before .before .intake .ensures .1)
+returns c = let a = (c .before .before .before .before .before .before .before .before .before .before .before .before .before .before .before .before .before .args) in (intake-by (sizesOf (a .sizes .now)) (optionsOf (a .sides .now) (a .settings .now)) (a .count) (fieldsOf (a .kinds .now) (a .numbers .now)) (a .parameters .now) (a .points .now) (a .masks .now) (a .elements .now) (a .surface .now) (a .words .now) (a .floats .now) (c .before .before .before .before .intake .ensures .0) (c .before .before .before .before .before .before .before .sizes-of .ensures) (c .before .before .before .before .before .before .before .before .before .options-of .ensures) (c .before .before .before .before .before .before .before .before .fields-of .ensures), c .before .before .before .before .intake .ensures .1)
 
 pub h-intake-spec : {M : Type 1} → statement M
 h-intake-spec =
@@ -44,4 +47,5 @@ h-intake-spec =
     sizes-of-requires
     intake-requires
     same-length
+    same-length-2
     returns)
