@@ -145,7 +145,7 @@ fn words_of(s: &[u32], n: usize) -> &[u32] {
     &s[..k]
 }
 
-// The number that intake gives on these slices and the front of the work.
+// The number that intake gives on these slices and the fronts of the two work slices.
 fn number_of(
     t: Trial,
     parameters: &[f64],
@@ -154,13 +154,14 @@ fn number_of(
     elements: &[u32],
     surface: &[u32],
     work: &mut [u32],
-    floats: &[f64],
+    floats: &mut [f64],
 ) -> u32 {
     let f = Field::Level(0.5);
     let fields = [f, f, f, f, f, f, f, f];
     let o = options(t.faults);
     let s = t.sizes;
     let g = count_words(t.words, work);
+    let h = count_floats(t.floats, floats);
     intake(
         s,
         o,
@@ -172,7 +173,7 @@ fn number_of(
         elements,
         surface,
         &mut work[..g],
-        floats,
+        &mut floats[..h],
     )
 }
 
@@ -185,15 +186,14 @@ fn fronts(
     elements: &[u32],
     surface: &[u32],
     work: &mut [u32],
-    floats: &[f64],
+    floats: &mut [f64],
 ) -> u32 {
     let a = floats_of(parameters, t.parameters);
     let b = floats_of(points, t.points);
     let c = words_of(masks, t.masks);
     let d = words_of(elements, t.elements);
     let e = words_of(surface, t.surface);
-    let h = floats_of(floats, t.floats);
-    number_of(t, a, b, c, d, e, work, h)
+    number_of(t, a, b, c, d, e, work, floats)
 }
 
 // The number that intake gives.
@@ -204,7 +204,7 @@ fn tried(t: Trial) -> u32 {
     let mut elements = [0u32; 64];
     let surface = [0u32; 96];
     let mut work = [7u32; 134000];
-    let floats = [0.0; 65600];
+    let mut floats = [7.0; 65600];
     put_points(MESH, &mut points);
     put_float(&mut points, 18, of(t.coordinate));
     fill_elements(&mut elements, t.faults, t.second);
@@ -216,7 +216,7 @@ fn tried(t: Trial) -> u32 {
         &elements,
         &surface,
         &mut work,
-        &floats,
+        &mut floats,
     )
 }
 
