@@ -9,6 +9,10 @@
      it says, or as the array in its type has. The arrays' sizes are [3], [4], [5], [6], [8] and [32] as written.
    - What a call may write (a pointer without const) overlaps nothing else that is lent to the same call.
    - Nobody else writes to what is lent until the call returns, or reads what is lent to be written.
+   - The floating-point environment is the one that a program starts with: rounding to nearest, subnormal numbers neither written nor
+     read as zero, all exceptions masked. -ffast-math changes it for the whole program: an element of side 2^-350 that passes otherwise
+     then gives 15. With exceptions unmasked a sound mesh can end in SIGFPE. halmafir_environment below tests it.
+   - The stack has 64 KiB left for halmafir_report, which needs about 50, and 16 KiB for each other function.
    Lengths count numbers, not bytes.
 
    No function keeps anything between calls, allocates, or prints; calls on separate buffers may run at the same time.
@@ -34,10 +38,19 @@
 
 #include <stddef.h>
 #include <stdint.h>
+#include <xmmintrin.h>
 
 #ifdef __cplusplus
 extern "C" {
 #endif
+
+/* 1 where this thread's floating-point environment is the one that the promises are made for, else 0. It reads the control register of
+   the floating-point unit (MXCSR: denormals-are-zero, the six exception masks, rounding and flush-to-zero), so no option of the compiler
+   can change the answer. */
+static inline int halmafir_environment(void)
+{
+    return (_mm_getcsr() & 0xFFC0u) == 0x1F80u;
+}
 
 /* How long the buffers of a pass must be at least, for so many vertices and elements: 32-bit words and doubles of work, 32-bit words of
    the element buffer (twice the elements) and of the surface buffer (4 triples an element). */
