@@ -46,6 +46,11 @@ int main(void) {
     size_t result[4];
     uint32_t number;
 
+    if (!halmafir_environment()) {
+        fprintf(stderr, "the floating-point environment is not the one that the promises are made for\n");
+        return 1;
+    }
+
     /* Parameters are the points here. */
     for (size_t i = 0; i < LENGTH(points); i++) parameters[i] = points[i];
 
