@@ -5,16 +5,18 @@ are proposals: each becomes an equation that the checker computes, and a wrong o
 """
 import math
 import struct
+import sys
 from fractions import Fraction
 from functools import reduce
 from itertools import combinations
 from operator import add
+from pathlib import Path
+
+sys.dont_write_bytecode = True
+sys.path.insert(0, str(Path(__file__).resolve().parents[1]))
+from vectors import cross, dot, of, sub  # noqa: E402
 
 ROOT_432 = math.sqrt(432.0)
-
-
-def of(bits):
-    return struct.unpack(">d", bits.to_bytes(8, "big"))[0]
 
 
 def bits(x):
@@ -32,34 +34,22 @@ def rows(buffer, n, width):
 # ---- measures
 
 
-def minus(a, b):
-    return [a[i] - b[i] for i in range(3)]
-
-
-def dot(a, b):
-    return a[0] * b[0] + a[1] * b[1] + a[2] * b[2]
-
-
-def cross(a, b):
-    return [a[1] * b[2] - a[2] * b[1], a[2] * b[0] - a[0] * b[2], a[0] * b[1] - a[1] * b[0]]
-
-
 def determinant(ps, t):
     a, b, c, d = (ps[v] for v in t)
-    return dot(minus(b, a), cross(minus(c, a), minus(d, a)))
+    return dot(sub(b, a), cross(sub(c, a), sub(d, a)))
 
 
 def score(ps, t):
     total = None
     for i, j in combinations(t, 2):
-        edge = minus(ps[j], ps[i])
+        edge = sub(ps[j], ps[i])
         total = dot(edge, edge) if total is None else total + dot(edge, edge)
     divisor = total * math.sqrt(total)
     return 0.0 if divisor == 0 else ROOT_432 * abs(determinant(ps, t)) / divisor
 
 
 def length(ps, e):
-    edge = minus(ps[e[0]], ps[e[1]])
+    edge = sub(ps[e[0]], ps[e[1]])
     return math.sqrt(dot(edge, edge))
 
 
@@ -245,7 +235,7 @@ def candidates(call, state, moved, v):
     near = [w for w in range(nv) if w != v and any(v in t and w in t for t in ts)]
     if near:
         mean = [reduce(add, (parameters[w][i] for w in near), -0.0) / len(near) for i in range(3)]
-        way = minus(mean, parameters[v])
+        way = sub(mean, parameters[v])
         out += [[origin[i] + alpha * way[i] for i in range(3)] for alpha in (1.0, 0.5, 0.25)]
     step = 0.15 * box.spacing
     return out + [origin[:i] + [origin[i] + d] + origin[i + 1 :] for i in range(3) for d in (-step, step)]

@@ -13,6 +13,11 @@ import struct
 import sys
 from fractions import Fraction
 
+sys.dont_write_bytecode = True
+sys.path[:0] = ["tools", "tools/blocks"]
+import blocks  # noqa: E402
+from vectors import cross, dot, of, sub  # noqa: E402
+
 NAN = 0x7FF8000000000000
 CASES = sys.argv[1:] == ["cases"]
 
@@ -35,10 +40,6 @@ def rows(numbers, width):
     return [numbers[i : i + width] for i in range(0, len(numbers), width)]
 
 
-def of(bits):
-    return struct.unpack("<d", struct.pack("<Q", bits))[0]
-
-
 def pattern(x):
     return NAN if x != x else struct.unpack("<Q", struct.pack("<d", x))[0]
 
@@ -58,18 +59,6 @@ def divided(x, y):
     if y == 0:
         return math.copysign(math.inf, x) * math.copysign(1.0, y)
     return x / y
-
-
-def sub(a, b):
-    return [a[i] - b[i] for i in range(3)]
-
-
-def dot(a, b):
-    return a[0] * b[0] + a[1] * b[1] + a[2] * b[2]
-
-
-def cross(a, b):
-    return [a[1] * b[2] - a[2] * b[1], a[2] * b[0] - a[0] * b[2], a[0] * b[1] - a[1] * b[0]]
 
 
 def determinant(p):
@@ -583,9 +572,6 @@ for number, (points, tets, given) in enumerate(FLIPS):
 
 
 # Block files, through `report`. The files are made by tools/blocks/blocks.py, and read here anew, as document 01 says.
-sys.dont_write_bytecode = True
-sys.path.insert(0, "tools/blocks")
-import blocks  # noqa: E402
 
 
 def words_at(data, k):

@@ -17,9 +17,10 @@ use Rattle.mesh.proofs.Laws.Complex.Sums.{bit}
 use Rattle.mesh.proofs.Laws.Complex.Flip.{two-of, three-of, proper2, proper3, flip23-proper, flip32-proper}
 use Rattle.mesh.proofs.Laws.Link.Closed.{AtMostTwo}
 use Rattle.mesh.proofs.Laws.Link.Keys.{keep-cons}
+use Rattle.mesh.proofs.Laws.Link.Order.{star-complex}
 use Rattle.repair.proofs.Laws.Flip.Triangles.{star-cons, star-append}
 use Rattle.repair.proofs.Laws.Flip.Replace.{OneFlip, two-to-three, three-to-two}
-use Rattle.theorems.proofs.Flip.Stars.{star-same, star-replaced}
+use Rattle.theorems.proofs.Flip.Stars.{star-replaced}
 
 -- a triangle lies in exactly one element of the one list where it does in the other
 abbrev pub SameBoundary : List (List ℕ) → List (List ℕ) → Type 0
@@ -147,7 +148,7 @@ module _ (n : ℕ) (es fs : List (List ℕ)) (P : Proper n es) (Q : Proper n fs)
       let old = star-replaced n τ (u ∷ v ∷ w ∷ []) (two-of a b u v w []) es P (proper2 a b u v w (c .five) n low [] tt refl refl) (c .only)
       (each-two (λ e. within e es ≡ true) (u ∷ v ∷ w ∷ a ∷ []) (u ∷ v ∷ w ∷ b ∷ []) (c .atA) (c .atB))
       (each-two (λ e. sub (u ∷ v ∷ w ∷ []) e ≡ true) (u ∷ v ∷ w ∷ a ∷ []) (u ∷ v ∷ w ∷ b ∷ []) (simp named) (simp named)) in
-      let new = sym (star-same n τ (flip23 a b u v w es) fs F Q same) ∙ star-append τ (three-of a b u v w []) R in
+      let new = sym (star-complex n τ (flip23 a b u v w es) fs F Q same) ∙ star-append τ (three-of a b u v w []) R in
       let even = five-even a b u v w (c .five) τ l d in
       both-one (star τ es) (star τ fs) (even .0 + star τ R) (few τ l d) (few′ τ l d) (let s = even .1 in omega arith)
 
@@ -163,7 +164,7 @@ module _ (n : ℕ) (es fs : List (List ℕ)) (P : Proper n es) (Q : Proper n fs)
       let old = star-replaced n τ (a ∷ b ∷ []) (three-of a b u v w []) es P (proper3 a b u v w (c .five) n low [] tt refl refl) (c .only)
       (each-three (λ e. within e es ≡ true) (a ∷ b ∷ u ∷ v ∷ []) (a ∷ b ∷ v ∷ w ∷ []) (a ∷ b ∷ w ∷ u ∷ []) (c .atUV) (c .atVW) (c .atWU))
       (each-three (λ e. sub (a ∷ b ∷ []) e ≡ true) (a ∷ b ∷ u ∷ v ∷ []) (a ∷ b ∷ v ∷ w ∷ []) (a ∷ b ∷ w ∷ u ∷ []) (simp named) (simp named) (simp named)) in
-      let new = sym (star-same n τ (flip32 a b u v w es) fs F Q same) ∙ star-append τ (two-of a b u v w []) R in
+      let new = sym (star-complex n τ (flip32 a b u v w es) fs F Q same) ∙ star-append τ (two-of a b u v w []) R in
       let even = five-even a b u v w (c .five) τ l d in
       both-one (star τ es) (star τ fs) (even .0 + star τ R) (few τ l d) (few′ τ l d) (let s = even .1 in omega arith)
 

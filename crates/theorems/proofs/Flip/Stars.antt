@@ -1,5 +1,5 @@
--- How many elements have a triangle: as many in two lists with the same complex; and in one list, as many as among given elements, where
--- those are its elements with σ, and among the others. Assumes nothing.
+-- How many elements of a list have a triangle: as many as among given elements, where those are its elements with σ, and among the others.
+-- Assumes nothing.
 use mathlib.Core.Path.{_≡_, refl, sym, ap, _∙_}
 use mathlib.Core.Logic.{inl, inr}
 use mathlib.Core.Bool.{true, not}
@@ -9,28 +9,20 @@ use native.Mathlib.Omega.{arith}
 use lib.ListN.{length}
 use Rattle.mesh.specs.Complex.{sub, within, keep, star, Sub, Proper, SameComplex}
 use Rattle.mesh.proofs.Laws.Complex.Sets.{split, clash, sub-elim, sub-intro, within-elim, within-intro}
-use Rattle.mesh.proofs.Laws.Complex.Lists.{keep-elim, keep-intro, keep-pos}
-use Rattle.mesh.proofs.Laws.Complex.Same.{same-length, proper-keep}
+use Rattle.mesh.proofs.Laws.Complex.Lists.{keep-intro, keep-pos}
+use Rattle.mesh.proofs.Laws.Complex.Same.{proper-keep}
 use Rattle.mesh.proofs.Laws.Complex.Tets.{tet-of, whole}
+use Rattle.mesh.proofs.Laws.Link.Order.{star-complex}
 use Rattle.repair.proofs.Laws.Flip.Triangles.{star-cons}
 use Rattle.repair.proofs.Laws.Flip.Owners.{keep-both}
 
--- ---- lists with the same complex
+-- ---- elements with σ
 
 -- what lies within an element and has σ lies within an element that has σ
 within-having : (σ e : List ℕ) (es : List (List ℕ)) → sub σ e ≡ true → within e es ≡ true → within e (keep (sub σ) es) ≡ true
 within-having σ e es s h =
     let r = within-elim e es h in
     within-intro e (keep-intro (sub σ) (r .0) es (r .1) (sub-intro σ (r .0) (λ z m. r .2 z (sub-elim σ e s z m)))) (r .2)
-
--- each triangle lies in as many elements of the one as of the other
-pub star-same : (n : ℕ) (τ : List ℕ) (es fs : List (List ℕ)) → Proper n es → Proper n fs → SameComplex es fs → star τ es ≡ star τ fs
-unfolding star
-star-same n τ es fs P Q c =
-    same-length n (keep (sub τ) es) (keep (sub τ) fs) (proper-keep n (sub τ) es P) (proper-keep n (sub τ) fs Q) (having es fs (c .0), having fs es (c .1))
-  where
-    having : (es fs : List (List ℕ)) → ((e : List ℕ) → List·Memᴰ e es → within e fs ≡ true) → (e : List ℕ) → List·Memᴰ e (keep (sub τ) es) → within e (keep (sub τ) fs) ≡ true
-    having es fs h e m = let r = keep-elim (sub τ) e es m in within-having τ e fs (r .1) (h e (r .0))
 
 -- ---- elements that all lie in another list
 
@@ -96,5 +88,5 @@ pub star-replaced : (n : ℕ) (τ σ : List ℕ) (ks es : List (List ℕ)) → P
     → star τ es ≡ star τ ks + star τ (keep (λ e. not (sub σ e)) es)
 star-replaced n τ σ ks es P Q many there have =
     let K : Proper n (keep (sub σ) es) = proper-keep n (sub σ) es P in
-    let S = star-same n τ ks (keep (sub σ) es) Q K (all-of n ks (keep (sub σ) es) Q K (λ e m. within-having σ e es (have e m) (there e m)) (few-having σ ks es many)) in
+    let S = star-complex n τ ks (keep (sub σ) es) Q K (all-of n ks (keep (sub σ) es) Q K (λ e m. within-having σ e es (have e m) (there e m)) (few-having σ ks es many)) in
     star-apart τ σ es ∙ ap (λ k. k + star τ (keep (λ e. not (sub σ e)) es)) (sym S)

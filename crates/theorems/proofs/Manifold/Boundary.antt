@@ -13,20 +13,20 @@ use lib.ListN.{length}
 use Rattle.mesh.specs.declared.element.Tet.{Tet}
 use Rattle.mesh.specs.declared.element.Triple.{Triple}
 use Rattle.mesh.specs.Complex.{sub, keep, Nodup}
-use Rattle.mesh.specs.Tests.{every, nodup, under}
+use Rattle.mesh.specs.Tests.{every}
 use Rattle.mesh.specs.Sort.{sort}
-use Rattle.mesh.specs.Element.{facesOf, triple, cornersOf, verticesOf, keyOf}
+use Rattle.mesh.specs.Element.{facesOf, triple, cornersOf, keyOf}
 use Rattle.mesh.specs.Boundary.{sameTriple, leTriple, allFaces, withKey, singles, boundaryOf}
 use Rattle.mesh.specs.Intake.{wellNumbered}
 use Rattle.mesh.specs.Manifold.{nonmanifold}
-use Rattle.mesh.proofs.Laws.Complex.Sets.{split, same, and-snd, sub-elim, sub-intro}
-use Rattle.mesh.proofs.Laws.Complex.Tests.{nodup-sound}
-use Rattle.mesh.proofs.Laws.Link.Members.{kept-elim, every-elim}
+use Rattle.mesh.proofs.Laws.Complex.Sets.{split, same, sub-elim, sub-intro}
+use Rattle.mesh.proofs.Laws.Link.Members.{kept-elim}
 use Rattle.mesh.proofs.Laws.Link.Keys.{Fours, key-mem, key-rising, key-same, triple-decides, face-nodup}
 use Rattle.mesh.proofs.Laws.Link.Boundary.{times-some}
 use Rattle.mesh.proofs.Laws.Boundary.Same.{sort-rearranges}
 use Rattle.mesh.proofs.Laws.Boundary.Runs.{lonely}
 use Rattle.mesh.proofs.Laws.Boundary.Meaning.{surface-once, surface-else}
+use Rattle.repair.proofs.Laws.Flip.Begun.{numbered-fours}
 use Rattle.theorems.specs.Manifold.{Different, Once, Cycle, Manifold}
 use Rattle.theorems.proofs.Manifold.Counts.{kept-count}
 use Rattle.theorems.proofs.Manifold.Whole.{manifold-elim, manifold-intro}
@@ -95,9 +95,6 @@ boundary-once ts P x y z d =
         turn f g h = subst (λ u. sameTriple u f ≡ true) (triple-decides .equal f g h) (triple-decides .self f)
 
 -- ---- the test
-
-numbered-fours : (n : ℕ) (ts : List Tet) → every (wellNumbered n) ts ≡ true → Fours ts
-numbered-fours n ts h t m = nodup-sound (verticesOf t) (and-snd (under n (verticesOf t)) (nodup (verticesOf t)) (every-elim (wellNumbered n) ts h m))
 
 module _ (n : ℕ) (ts : List Tet) (numbered : every (wellNumbered n) ts ≡ true) where
   -- the surface passes the test exactly where it is a closed manifold

@@ -12,7 +12,8 @@ use lib.Dec.{eqb}
 use lib.ListN.{length}
 use Rattle.mesh.specs.declared.element.Pair.{Pair}
 use Rattle.mesh.specs.Complex.{mem, keep, Nodup}
-use Rattle.mesh.proofs.Laws.Complex.Sets.{split, same, mem-here, mem-there}
+use Rattle.mesh.proofs.Laws.Numbers.{eqb-swap}
+use Rattle.mesh.proofs.Laws.Complex.Sets.{split, mem-here, mem-there}
 use Rattle.mesh.proofs.Laws.Complex.Sums.{bit}
 use Rattle.mesh.proofs.Laws.Link.Keys.{keep-cons}
 
@@ -32,9 +33,6 @@ NoLoops es = (e : Pair) → List·Memᴰ e es → e .a ≢ e .b
 abbrev pub endsIn : List ℕ → List Pair → ℕ
 endsIn r [] = 0
 endsIn r (e ∷ es) = bit (mem (e .a) r) + (bit (mem (e .b) r) + endsIn r es)
-
-pub eqb-swap : (x y : ℕ) → eqb x y ≡ eqb y x
-eqb-swap x y = same (λ h. eq-eqb y x (sym (eqb-true x y h))) (λ h. eq-eqb x y (sym (eqb-true y x h)))
 
 bit-most : (b : Bool) → bit b ≤ 1
 bit-most true = omega arith

@@ -12,11 +12,12 @@ use Rattle.mesh.specs.declared.element.Triple.{Triple}
 use Rattle.mesh.specs.Complex.{mem, Nodup, Sub}
 use Rattle.mesh.specs.Element.{cornersOf, pair}
 use Rattle.mesh.specs.Manifold.{surfaceLink}
+use Rattle.mesh.proofs.Laws.Numbers.{eqb-swap}
 use Rattle.mesh.proofs.Laws.Complex.Sets.{split, clash, mem-cases, mem-nil}
 use Rattle.mesh.proofs.Laws.Link.Keys.{three-nodup, flip≢}
 use Rattle.theorems.specs.Manifold.{Different, triplesOn, LinkEdge}
 use Rattle.theorems.proofs.Manifold.Corners.{Apart, three-apart, mem-first, mem-second, mem-third, three-sub, different-later}
-use Rattle.theorems.proofs.Manifold.Ends.{endOf, degree, eqb-swap}
+use Rattle.theorems.proofs.Manifold.Ends.{endOf, degree}
 
 -- ---- one triple
 
