@@ -5,6 +5,11 @@
 //! one number of a table, and a refused mesh is left as it was. No call panics, whatever the
 //! numbers are, short of memory.
 //!
+//! Two things are the caller's to see to: the floating-point environment is the one that a program
+//! starts with (rounding to nearest, subnormal numbers kept, exceptions masked; a C library built
+//! with `-ffast-math` that is linked in can change it), and the stack has about 50 KiB left for
+//! [`report`], 16 KiB for the others.
+//!
 //! ```
 //! use halmafir::{Field, Mesh, Options, boundary, improve};
 //!
