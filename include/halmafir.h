@@ -1,12 +1,12 @@
-/* Halmafir: repair of tetrahedral meshes. This header states the functions of crates/interface for C and C++ on x86-64.
+/* Halmafir: repair of tetrahedral meshes. This header states the functions of crates/halmafir for C and C++ on x86-64.
 
    Each function is proved to give, for every content of its arguments, exactly what its definition gives: NaN, infinities and any
-   integers included, there is no call that it does not answer. In this header the promises stand in words; in crates/interface/src they
+   integers included, there is no call that it does not answer. In this header the promises stand in words; in crates/halmafir/src they
    stand as equations with definitions, and docs/INTERFACE.md says how to link.
 
    What a caller owes, which nothing here tests:
    - Each pointer is aligned and not null, also beside a length of 0, and behind it stand as many initialised places as the length beside
-     it says, or as the array in its type has. The arrays' sizes are [3], [4], [5], [6], [8] and [32] as written.
+     it says, or one struct.
    - What a call may write (a pointer without const) overlaps nothing else that is lent to the same call.
    - Nobody else writes to what is lent until the call returns, or reads what is lent to be written.
    - The floating-point environment is the one that a program starts with: rounding to nearest, subnormal numbers neither written nor
@@ -72,6 +72,46 @@ enum {
 /* Periodic bits. */
 enum { HALMAFIR_PERIODIC_X = 1, HALMAFIR_PERIODIC_Y = 2, HALMAFIR_PERIODIC_Z = 4 };
 
+/* ---- What stands beside the buffers of a mesh
+
+   The functions take these structs as arrays of 3 and 4 size_t, 14 words and 38 doubles, place by place. */
+
+/* How many vertices, elements and surface triples a mesh has. */
+struct halmafir_sizes {
+    size_t vertices, elements, triples;
+};
+
+/* The whole numbers of a call. */
+struct halmafir_settings {
+    uint32_t cells[3];    /* in x, y, z */
+    uint32_t periodic;    /* periodic bits */
+    uint32_t passes;      /* most rounds of improve */
+    uint32_t field_count; /* how many fields there are, at most 8 */
+    uint32_t kinds[8];    /* the kind of each field; places from field_count on are not looked at */
+};
+
+/* The box and the fields' numbers. */
+struct halmafir_numbers {
+    double bounds[6];    /* x lo, x hi, y lo, y hi, z lo, z hi */
+    double fields[8][4]; /* four for each field; those that a field's kind does not use are not looked at */
+};
+
+/* What a pass gives: its count, and the mesh's new sizes. */
+struct halmafir_result {
+    size_t count, vertices, elements, triples;
+};
+
+#ifdef __cplusplus
+#define HALMAFIR_ASSERT(test) static_assert(test, #test)
+#else
+#define HALMAFIR_ASSERT(test) _Static_assert(test, #test)
+#endif
+HALMAFIR_ASSERT(sizeof(size_t) == 8 && sizeof(double) == 8);
+HALMAFIR_ASSERT(sizeof(struct halmafir_sizes) == 3 * sizeof(size_t));
+HALMAFIR_ASSERT(sizeof(struct halmafir_settings) == 14 * sizeof(uint32_t));
+HALMAFIR_ASSERT(sizeof(struct halmafir_numbers) == 38 * sizeof(double));
+HALMAFIR_ASSERT(sizeof(struct halmafir_result) == 4 * sizeof(size_t));
+
 /* ---- The passes
 
    A mesh stands in five buffers, at their front:
@@ -80,21 +120,14 @@ enum { HALMAFIR_PERIODIC_X = 1, HALMAFIR_PERIODIC_Y = 2, HALMAFIR_PERIODIC_Z = 4
      masks       one word a vertex: bit j says that the vertex lies on field j
      elements    four vertex numbers an element, room for twice as many elements
      surface     three vertex numbers a triple, room for 4 triples an element
-   sizes         how many: vertices, elements, surface triples
-
-   The other inputs of a pass:
-     bounds      the box: x lo, x hi, y lo, y hi, z lo, z hi
-     settings    cells in x, y, z; periodic bits; most rounds of improve
-     field_count how many fields there are, at most 8
-     kinds       the kind of each of eight fields; places from field_count on are not looked at
-     numbers     four doubles for each of eight fields; those that a field's kind does not use are not looked at
-     words       work, HALMAFIR_WORDS(vertices, elements) at least
-     floats      work, HALMAFIR_FLOATS(vertices) at least
+   and `sizes` says how many there are. The other inputs of a pass are `settings`, `numbers` and its work:
+     words       HALMAFIR_WORDS(vertices, elements) at least
+     floats      HALMAFIR_FLOATS(vertices) at least
 
    The work may hold anything before a call. After every call, refused or not, both work slices hold zeros in their whole length.
 
-   result        is written by every call. With 0 returned: the count, and the mesh's new sizes: vertices, elements, triples. Each place of
-                 the mesh buffers past the new sizes keeps what it held. After a refusal: four zeros. */
+   `result` is written by every call. With 0 returned: the count, and the mesh's new sizes. Each place of the mesh buffers past the new
+   sizes keeps what it held. After a refusal: four zeros. */
 
 /* Collapses short edges of badly shaped elements, renumbers the vertices by first use, drops those that no element has, and writes the
    boundary to the surface buffer. The count is that of the vertices replaced. The surface given is only counted. */
@@ -104,15 +137,12 @@ uint32_t halmafir_improve(
     uint32_t *masks, size_t masks_len,
     uint32_t *elements, size_t elements_len,
     uint32_t *surface, size_t surface_len,
-    const size_t sizes[3],
-    const double bounds[6],
-    const uint32_t settings[5],
-    uint32_t field_count,
-    const uint32_t kinds[8],
-    const double numbers[32],
+    const struct halmafir_sizes *sizes,
+    const struct halmafir_settings *settings,
+    const struct halmafir_numbers *numbers,
     uint32_t *words, size_t words_len,
     double *floats, size_t floats_len,
-    size_t result[4]);
+    struct halmafir_result *result);
 
 /* Moves vertices of badly shaped elements. The count is that of the vertices moved; the sizes stay. Masks, elements and surface are only
    read. regions_given: 0 where there is no list of regions, any other number where regions is the list, each a mask of fields. No list
@@ -123,35 +153,29 @@ uint32_t halmafir_smooth(
     const uint32_t *masks, size_t masks_len,
     const uint32_t *elements, size_t elements_len,
     const uint32_t *surface, size_t surface_len,
-    const size_t sizes[3],
-    const double bounds[6],
-    const uint32_t settings[5],
-    uint32_t field_count,
-    const uint32_t kinds[8],
-    const double numbers[32],
+    const struct halmafir_sizes *sizes,
+    const struct halmafir_settings *settings,
+    const struct halmafir_numbers *numbers,
     uint32_t regions_given,
     const uint32_t *regions, size_t regions_len,
     uint32_t *words, size_t words_len,
     double *floats, size_t floats_len,
-    size_t result[4]);
+    struct halmafir_result *result);
 
 /* Reconnects badly shaped elements and writes the boundary to the surface buffer. The count is that of the flips made. Parameters, points
-   and masks stay as they are. */
+   and masks are only read. */
 uint32_t halmafir_flip(
-    double *parameters, size_t parameters_len,
-    double *points, size_t points_len,
-    uint32_t *masks, size_t masks_len,
+    const double *parameters, size_t parameters_len,
+    const double *points, size_t points_len,
+    const uint32_t *masks, size_t masks_len,
     uint32_t *elements, size_t elements_len,
     uint32_t *surface, size_t surface_len,
-    const size_t sizes[3],
-    const double bounds[6],
-    const uint32_t settings[5],
-    uint32_t field_count,
-    const uint32_t kinds[8],
-    const double numbers[32],
+    const struct halmafir_sizes *sizes,
+    const struct halmafir_settings *settings,
+    const struct halmafir_numbers *numbers,
     uint32_t *words, size_t words_len,
     double *floats, size_t floats_len,
-    size_t result[4]);
+    struct halmafir_result *result);
 
 /* ---- The boundary
 

@@ -1,4 +1,4 @@
-//! Links libinterface.a, which `rt staticlib interface` makes: from the folder in HALMAFIR_LIB, or
+//! Links libhalmafir.a, which `rt staticlib halmafir` makes: from the folder in HALMAFIR_LIB, or
 //! from target/staticlib of the repository.
 use std::path::PathBuf;
 
@@ -9,7 +9,7 @@ fn main() {
         Ok(path) => PathBuf::from(path),
         Err(_) => root.join("target/staticlib"),
     };
-    println!("cargo:rerun-if-changed={}", folder.join("libinterface.a").display());
+    println!("cargo:rerun-if-changed={}", folder.join("libhalmafir.a").display());
     println!("cargo:rustc-link-search=native={}", folder.display());
-    println!("cargo:rustc-link-lib=static=interface");
+    println!("cargo:rustc-link-lib=static=halmafir");
 }

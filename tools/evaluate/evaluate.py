@@ -217,7 +217,8 @@ use Rattle.geometry.specs.Bounds.{spacing}
 use Rattle.mesh.specs.declared.element.Pair.{Pair}
 use Rattle.mesh.specs.Group.{groups}
 use Rattle.mesh.specs.Intake.{intake}
-use Rattle.repair.specs.Mesh.{Mesh, Result, made, refused, measure}
+use Rattle.mesh.specs.Measure.{measure}
+use Rattle.repair.specs.Mesh.{Mesh, Result, made, refused}
 use Rattle.repair.specs.Improve
 use Rattle.repair.specs.Smooth
 use Rattle.repair.specs.Step.{meshOf, given, lengthsOf, resultOf, finish}

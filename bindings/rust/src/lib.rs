@@ -31,6 +31,7 @@
 mod plain;
 mod refusal;
 
+use plain::{Made, Numbers, Settings, Sizes};
 pub use refusal::Refusal;
 
 /// What a pass gives: its count, or the number of its refusal.
@@ -102,31 +103,31 @@ pub struct Options {
     pub fields: Vec<Field>,
 }
 
-/// The inputs beside the mesh as the plain functions take them.
-struct Setting {
-    bounds: [f64; 6],
-    settings: [u32; 5],
-    field_count: u32,
-    kinds: [u32; 8],
-    numbers: [f64; 32],
-}
-
-impl Setting {
-    fn new(o: &Options) -> Self {
-        let ([a, b, c], [d, e, f], [x, y, z]) = (o.lo, o.hi, o.cells);
-        let mut setting = Setting {
-            bounds: [a, d, b, e, c, f],
-            settings: [x, y, z, o.periodic, o.passes],
-            // Over 8 gives 11, however many.
-            field_count: u32::try_from(o.fields.len()).unwrap_or(u32::MAX),
-            kinds: [0; 8],
-            numbers: [0.; 32],
-        };
-        for (j, field) in o.fields.iter().take(8).enumerate() {
-            setting.kinds[j] = field.kind;
-            setting.numbers[4 * j..4 * j + 4].copy_from_slice(&field.numbers);
+impl Options {
+    /// The whole numbers as the plain functions take them.
+    fn settings(&self) -> Settings {
+        let mut kinds = [0; 8];
+        for (kind, field) in kinds.iter_mut().zip(&self.fields) {
+            *kind = field.kind;
         }
-        setting
+        Settings {
+            cells: self.cells,
+            periodic: self.periodic,
+            passes: self.passes,
+            // Over 8 gives 11, however many.
+            field_count: u32::try_from(self.fields.len()).unwrap_or(u32::MAX),
+            kinds,
+        }
+    }
+
+    /// The box and the fields' numbers as the plain functions take them.
+    fn numbers(&self) -> Numbers {
+        let ([a, b, c], [d, e, f]) = (self.lo, self.hi);
+        let mut fields = [[0.; 4]; 8];
+        for (numbers, field) in fields.iter_mut().zip(&self.fields) {
+            *numbers = field.numbers;
+        }
+        Numbers { bounds: [a, d, b, e, c, f], fields }
     }
 }
 
@@ -144,9 +145,9 @@ impl Work {
 }
 
 impl Mesh {
-    fn sizes(&self) -> [usize; 3] {
+    fn sizes(&self) -> Sizes {
         let vertices = self.parameters.len().max(self.points.len()).max(self.masks.len());
-        [vertices, self.elements.len(), self.surface.len()]
+        Sizes { vertices, elements: self.elements.len(), triples: self.surface.len() }
     }
 
     /// Room for twice the elements and for four triples an element.
@@ -172,84 +173,87 @@ impl Mesh {
     }
 }
 
-/// Calls a pass on the grown mesh and takes over what it made. The mesh is as it was where the pass
-/// refuses.
-fn pass(
-    mesh: &mut Mesh,
-    call: impl FnOnce(&mut Mesh, &[usize; 3], &mut Work, &mut [usize; 4]) -> u32,
-) -> Outcome {
-    let sizes = mesh.sizes();
-    let mut work = Work::new(sizes[0], sizes[1]);
-    let mut result = [0; 4];
-    mesh.grow();
-    let number = call(mesh, &sizes, &mut work, &mut result);
-    if number != 0 {
-        mesh.shrink(sizes[1], sizes[2]);
-        return Err(Refusal(number));
-    }
-    let [count, vertices, elements, triples] = result;
-    mesh.keep(vertices);
-    mesh.shrink(elements, triples);
-    Ok(count)
+/// What is lent to a pass: the buffers of a mesh and the work, no two of which overlap.
+struct Lent<'a> {
+    parameters: &'a mut [f64],
+    points: &'a mut [f64],
+    masks: &'a mut [u32],
+    elements: &'a mut [u32],
+    surface: &'a mut [u32],
+    words: &'a mut [u32],
+    floats: &'a mut [f64],
 }
 
-/// A pass that may change the whole mesh.
-#[rustfmt::skip]
-fn change(change: plain::Change, mesh: &mut Mesh, options: &Options) -> Outcome {
-    let s = Setting::new(options);
-    pass(mesh, |mesh, sizes, work, result| {
-        let parameters = mesh.parameters.as_flattened_mut();
-        let points = mesh.points.as_flattened_mut();
-        let elements = mesh.elements.as_flattened_mut();
-        let surface = mesh.surface.as_flattened_mut();
-        // SAFETY: a function of include/halmafir.h; each pointer is that of a live slice of the length beside it, and no two overlap.
-        unsafe {
-            change(
-                parameters.as_mut_ptr(), parameters.len(),
-                points.as_mut_ptr(), points.len(),
-                mesh.masks.as_mut_ptr(), mesh.masks.len(),
-                elements.as_mut_ptr(), elements.len(),
-                surface.as_mut_ptr(), surface.len(),
-                sizes, &s.bounds, &s.settings, s.field_count, &s.kinds, &s.numbers,
-                work.words.as_mut_ptr(), work.words.len(),
-                work.floats.as_mut_ptr(), work.floats.len(),
-                result,
-            )
-        }
-    })
+/// Calls a pass on the grown mesh and takes over what it made. The mesh is as it was where the pass
+/// refuses.
+fn pass(mesh: &mut Mesh, call: impl FnOnce(Lent, &Sizes, &mut Made) -> u32) -> Outcome {
+    let sizes = mesh.sizes();
+    let mut work = Work::new(sizes.vertices, sizes.elements);
+    let mut made = Made { count: 0, vertices: 0, elements: 0, triples: 0 };
+    mesh.grow();
+    let lent = Lent {
+        parameters: mesh.parameters.as_flattened_mut(),
+        points: mesh.points.as_flattened_mut(),
+        masks: &mut mesh.masks,
+        elements: mesh.elements.as_flattened_mut(),
+        surface: mesh.surface.as_flattened_mut(),
+        words: &mut work.words,
+        floats: &mut work.floats,
+    };
+    let number = call(lent, &sizes, &mut made);
+    if number != 0 {
+        mesh.shrink(sizes.elements, sizes.triples);
+        return Err(Refusal(number));
+    }
+    mesh.keep(made.vertices);
+    mesh.shrink(made.elements, made.triples);
+    Ok(made.count)
 }
 
 /// Collapses short edges of badly shaped elements, up to `options.passes` rounds, then renumbers
 /// the vertices by first use, drops those that no element has and sets the surface to the boundary.
 /// Gives the number of vertices replaced.
+#[rustfmt::skip]
 pub fn improve(mesh: &mut Mesh, options: &Options) -> Outcome {
-    change(plain::halmafir_improve, mesh, options)
+    let (settings, numbers) = (options.settings(), options.numbers());
+    pass(mesh, |lent, sizes, made| {
+        // SAFETY: each pointer is that of a live slice of the length beside it, and no two overlap.
+        unsafe {
+            plain::halmafir_improve(
+                lent.parameters.as_mut_ptr(), lent.parameters.len(),
+                lent.points.as_mut_ptr(), lent.points.len(),
+                lent.masks.as_mut_ptr(), lent.masks.len(),
+                lent.elements.as_mut_ptr(), lent.elements.len(),
+                lent.surface.as_mut_ptr(), lent.surface.len(),
+                sizes, &settings, &numbers,
+                lent.words.as_mut_ptr(), lent.words.len(),
+                lent.floats.as_mut_ptr(), lent.floats.len(),
+                made,
+            )
+        }
+    })
 }
 
 /// Moves vertices of badly shaped elements. Gives the number of vertices moved. `regions` are masks
 /// of fields; no list and an empty list are different: with an empty list every point is outside.
 #[rustfmt::skip]
 pub fn smooth(mesh: &mut Mesh, options: &Options, regions: Option<&[u32]>) -> Outcome {
-    let s = Setting::new(options);
+    let (settings, numbers) = (options.settings(), options.numbers());
     let list = regions.unwrap_or(&[]);
-    pass(mesh, |mesh, sizes, work, result| {
-        let parameters = mesh.parameters.as_flattened_mut();
-        let points = mesh.points.as_flattened_mut();
-        let elements = mesh.elements.as_flattened();
-        let surface = mesh.surface.as_flattened();
+    pass(mesh, |lent, sizes, made| {
         // SAFETY: each pointer is that of a live slice of the length beside it, and none that is written overlaps another.
         unsafe {
             plain::halmafir_smooth(
-                parameters.as_mut_ptr(), parameters.len(),
-                points.as_mut_ptr(), points.len(),
-                mesh.masks.as_ptr(), mesh.masks.len(),
-                elements.as_ptr(), elements.len(),
-                surface.as_ptr(), surface.len(),
-                sizes, &s.bounds, &s.settings, s.field_count, &s.kinds, &s.numbers,
+                lent.parameters.as_mut_ptr(), lent.parameters.len(),
+                lent.points.as_mut_ptr(), lent.points.len(),
+                lent.masks.as_ptr(), lent.masks.len(),
+                lent.elements.as_ptr(), lent.elements.len(),
+                lent.surface.as_ptr(), lent.surface.len(),
+                sizes, &settings, &numbers,
                 u32::from(regions.is_some()), list.as_ptr(), list.len(),
-                work.words.as_mut_ptr(), work.words.len(),
-                work.floats.as_mut_ptr(), work.floats.len(),
-                result,
+                lent.words.as_mut_ptr(), lent.words.len(),
+                lent.floats.as_mut_ptr(), lent.floats.len(),
+                made,
             )
         }
     })
@@ -257,8 +261,25 @@ pub fn smooth(mesh: &mut Mesh, options: &Options, regions: Option<&[u32]>) -> Ou
 
 /// Reconnects badly shaped elements and sets the surface to the boundary. Gives the number of flips
 /// made.
+#[rustfmt::skip]
 pub fn flip(mesh: &mut Mesh, options: &Options) -> Outcome {
-    change(plain::halmafir_flip, mesh, options)
+    let (settings, numbers) = (options.settings(), options.numbers());
+    pass(mesh, |lent, sizes, made| {
+        // SAFETY: each pointer is that of a live slice of the length beside it, and no two overlap.
+        unsafe {
+            plain::halmafir_flip(
+                lent.parameters.as_ptr(), lent.parameters.len(),
+                lent.points.as_ptr(), lent.points.len(),
+                lent.masks.as_ptr(), lent.masks.len(),
+                lent.elements.as_mut_ptr(), lent.elements.len(),
+                lent.surface.as_mut_ptr(), lent.surface.len(),
+                sizes, &settings, &numbers,
+                lent.words.as_mut_ptr(), lent.words.len(),
+                lent.floats.as_mut_ptr(), lent.floats.len(),
+                made,
+            )
+        }
+    })
 }
 
 /// The sorted boundary triples of elements, or 10, 16 or 17.

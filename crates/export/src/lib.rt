@@ -2,12 +2,12 @@
 // themselves, an array as a pointer to its first number. A box is lo and hi per direction: x, y, z.
 pub mod passes;
 
+use geometry::bounds::Cells;
+use geometry::bounds::Options;
 use geometry::point::Point;
-use interface::arrays::bounds_of;
-use interface::arrays::field_of;
-use interface::arrays::options_of;
+use halmafir::arrays::bounds_of;
+use halmafir::arrays::field_of;
 ghost use mathlib.Core.Path.{_≡_};
-ghost use mathlib.Core.List.{[], _∷_};
 ghost use Prim.Native.Nat.{_<_, _*_, _%_, _/_};
 ghost use lib.ListN.{length};
 ghost use lib.Dec.{eqb};
@@ -19,7 +19,7 @@ ghost use Rattle.geometry.specs.Rank.{rankValue};
 ghost use Rattle.geometry.specs.Field.{value, gradient};
 ghost use Rattle.mesh.specs.Manifold.{nonmanifoldIn};
 ghost use Rattle.mesh.specs.Words.{copied};
-ghost use Rattle.interface.specs.Arrays.{pointOf, boundsOf, optionsOf, fieldOf};
+ghost use Rattle.halmafir.specs.Arrays.{pointOf, boundsOf, fieldOf};
 ghost use Rattle.export.specs.Answers.{along, asNumber};
 
 #[no_mangle]
@@ -74,10 +74,14 @@ pub extern "C" fn h_norm(p: &[f64; 3]) -> f64
 
 #[no_mangle]
 pub extern "C" fn h_spacing(b: &[f64; 6], x: u32, y: u32, z: u32) -> f64
-    ensures { λ r. ⌜ r ≡ spacing (optionsOf (now (b .entry)) (x ∷ y ∷ z ∷ 0 ∷ 0 ∷ [])) ⌝ }
+    ensures { λ r. ⌜ r ≡ spacing (record { bounds = boundsOf (now (b .entry)); cells = record { x = x; y = y; z = z }; periodic = 0; passes = 0 }) ⌝ }
 {
-    let n = [x, y, z, 0, 0];
-    geometry::bounds::spacing(options_of(b, &n))
+    geometry::bounds::spacing(Options {
+        bounds: bounds_of(b),
+        cells: Cells { x: x, y: y, z: z },
+        periodic: 0,
+        passes: 0,
+    })
 }
 
 #[no_mangle]

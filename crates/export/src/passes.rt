@@ -1,9 +1,9 @@
-// Parts of the passes for other languages: projection, link test, intake. A field is a kind and four numbers; there are eight places for them.
+// Parts of the passes for other languages: projection, link test, intake. Settings and numbers are those of the passes.
 use geometry::point::Point;
-use interface::arrays::bounds_of;
-use interface::arrays::fields_of;
-use interface::arrays::options_of;
-use interface::arrays::sizes_of;
+use halmafir::arrays::bounds_of;
+use halmafir::arrays::fields_of;
+use halmafir::arrays::options_of;
+use halmafir::arrays::settings_of;
 use mesh::link::link_ok_in;
 use mesh::words::copy_into;
 use repair::project::Projected;
@@ -17,7 +17,7 @@ ghost use Rattle.mesh.specs.Words.{pointsOf, copied, zeroWords, zeroFloats};
 ghost use Rattle.mesh.specs.Intake.{intake, givenOf};
 ghost use Rattle.mesh.specs.LinkRows.{stratumOf, linkOkIn};
 ghost use Rattle.repair.specs.Project.{project};
-ghost use Rattle.interface.specs.Arrays.{pointOf, boundsOf, fieldsOf, optionsOf, sizesOf};
+ghost use Rattle.halmafir.specs.Arrays.{pointOf, boundsOf, fieldsOf, countOf, settingsOf};
 ghost use Rattle.export.specs.Answers.{asNumber, pointOver};
 
 fn first(p: &[f64; 3]) -> Point
@@ -45,25 +45,32 @@ fn put_point(to: &mut [f64; 3], found: Projected) -> u32
     }
 }
 
-// 1 and the point that the candidate is moved to on the first `count` fields, or 0.
+// How many fields count.
+fn count(settings: &[u32; 14]) -> u32
+    ensures { λ r. ⌜ r ≡ countOf (now (settings .entry)) ⌝ }
+{
+    settings[5]
+}
+
+// 1 and the point that the candidate is moved to on the fields that count, or 0. Of the settings and numbers only the box and the fields
+// are looked at.
 #[no_mangle]
 pub extern "C" fn h_project(
-    b: &[f64; 6],
-    count: u32,
-    kinds: &[u32; 8],
-    floats: &[f64; 32],
+    settings: &[u32; 14],
+    numbers: &[f64; 38],
     origin: &[f64; 3],
     candidate: &[f64; 3],
     point: &mut [f64; 3],
 ) -> u32
     ensures { λ r. ⌜ _≡_ {A = ℕ × List Float} (r, now (point .exit)) (pointOver (now (point .entry))
-        (project (boundsOf (now (b .entry))) (pointOf (now (origin .entry)) 0) (take count (fieldsOf (now (kinds .entry)) (now (floats .entry)))) (pointOf (now (candidate .entry)) 0))) ⌝ }
+        (project (boundsOf (now (numbers .entry))) (pointOf (now (origin .entry)) 0) (take (countOf (now (settings .entry))) (fieldsOf (now (settings .entry)) (now (numbers .entry)))) (pointOf (now (candidate .entry)) 0))) ⌝ }
 {
+    let o = options_of(settings, numbers);
     let found = project_candidate(
-        bounds_of(b),
+        o.bounds,
         first(origin),
-        fields_of(kinds, floats),
-        count as usize,
+        fields_of(settings, numbers),
+        count(settings) as usize,
         first(candidate),
     );
     put_point(point, found)
@@ -103,35 +110,30 @@ pub extern "C" fn h_link(
     0
 }
 
-// Intake's number for a mesh and the other inputs of a pass, for measurements. Both work slices are all zeros afterwards.
+// Intake's number for a mesh and the other inputs of a pass, for measurements; of masks and surface it takes the lengths. Both work slices are all
+// zeros afterwards.
 #[no_mangle]
 pub extern "C" fn h_intake(
     parameters: &[f64],
     points: &[f64],
-    masks: &[u32],
+    masks: usize,
     elements: &[u32],
-    surface: &[u32],
+    surface: usize,
     sizes: &[usize; 3],
-    sides: &[f64; 6],
-    settings: &[u32; 5],
-    count: u32,
-    kinds: &[u32; 8],
-    numbers: &[f64; 32],
+    settings: &[u32; 14],
+    numbers: &[f64; 38],
     words: &mut [u32],
     floats: &mut [f64],
 ) -> u32
-    ensures { λ r. ⌜ r ≡ intake (givenOf (sizesOf (now (sizes .entry))) (optionsOf (now (sides .entry)) (now (settings .entry))) count (fieldsOf (now (kinds .entry)) (now (numbers .entry)))
-        (now (parameters .entry)) (now (points .entry)) (now (masks .entry)) (now (elements .entry)) (now (surface .entry)) (now (words .entry)) (now (floats .entry))) ⌝ }
+    ensures { λ r. ⌜ r ≡ intake (givenOf (settingsOf (now (sizes .entry)) (now (settings .entry)) (now (numbers .entry))) (fieldsOf (now (settings .entry)) (now (numbers .entry)))
+        (now (parameters .entry)) (now (points .entry)) masks (now (elements .entry)) surface (now (words .entry)) (now (floats .entry))) ⌝ }
     ensures { λ _. ⌜ now (words .exit) ≡ zeroWords (length (now (words .entry))) ⌝ }
     ensures { λ _. ⌜ now (floats .exit) ≡ zeroFloats (length (now (floats .entry))) ⌝ }
 {
-    let o = options_of(sides, settings);
-    let f = fields_of(kinds, numbers);
-    let z = sizes_of(sizes);
+    let s = settings_of(sizes, settings, numbers);
+    let f = fields_of(settings, numbers);
     mesh::intake::intake(
-        z,
-        o,
-        count,
+        s,
         f,
         parameters,
         points,

@@ -12,18 +12,18 @@ use Rattle.geometry.specs.declared.bounds.Bounds.{Bounds}
 use Rattle.geometry.specs.declared.bounds.Options.{Options}
 use Rattle.geometry.specs.declared.field.Field.{Field}
 use Rattle.geometry.specs.declared.field.Field.the-variants.{Level, Plane, Ball}
-use Rattle.geometry.specs.Float.{zero64}
-use Rattle.geometry.specs.Point.{determinant}
 use Rattle.mesh.specs.declared.element.Tet.{Tet}
 use Rattle.mesh.specs.declared.boundary.Outcome.{Outcome}
 use Rattle.mesh.specs.declared.boundary.Outcome.the-variants.{Surface, Refused}
 use Rattle.mesh.specs.declared.intake.Sizes.{Sizes}
+use Rattle.mesh.specs.declared.intake.Settings.{Settings}
 use Rattle.mesh.specs.declared.intake.Lengths.{Lengths}
 use Rattle.mesh.specs.Sort.{sort, ordered}
 use Rattle.mesh.specs.Rows.{eqRow}
 use Rattle.mesh.specs.Complex.{sub}
+use Rattle.mesh.specs.Measure.{measure}
 use Rattle.mesh.specs.Tests.{every, nodup, under}
-use Rattle.mesh.specs.Words.{wordAt, floatAt, pointAt, pointsOf}
+use Rattle.mesh.specs.Words.{wordAt, floatAt, pointsOf}
 use Rattle.mesh.specs.Element.{tet, tets, verticesOf}
 use Rattle.mesh.specs.Boundary.{boundaryNumber}
 
@@ -129,11 +129,7 @@ noneTwice rs = ordered (λ r q. not (eqRow r q)) rs
 
 -- determinant above 0
 abbrev pub upright : List Point → Tet → Bool
-upright ps t = lt zero64 (determinant (pointAt ps (t .a)) (pointAt ps (t .b)) (pointAt ps (t .c)) (pointAt ps (t .d)))
-
--- the same, of the points in their slice: what 15 comes to for well numbered elements
-unfoldable pub uprightIn : List Float → Tet → Bool
-uprightIn s t = lt zero64 (determinant (pointIn s (t .a)) (pointIn s (t .b)) (pointIn s (t .c)) (pointIn s (t .d)))
+upright ps t = measure ps .above t
 
 -- ---- the table
 
@@ -186,23 +182,23 @@ abbrev pub refusalOf : Outcome → ℕ
 refusalOf (Surface c) = 0
 refusalOf (Refused k) = k
 
--- what lent slices give
-unfoldable pub givenOf : Sizes → Options → ℕ → List Field → List Float → List Float → List ℕ → List ℕ → List ℕ → List ℕ → List Float → Given
-givenOf s o count fields parameters points masks elements surface work floats = record {
-  sizes = s;
+-- what lent slices give, with what stands beside them; of the masks and of the surface only the lengths
+unfoldable pub givenOf : Settings → List Field → List Float → List Float → ℕ → List ℕ → ℕ → List ℕ → List Float → Given
+givenOf s fields parameters points masks elements surface work floats = record {
+  sizes = s .sizes;
   lengths = record {
     parameters = length parameters;
     points = length points;
-    masks = length masks;
+    masks = masks;
     elements = length elements;
-    surface = length surface;
+    surface = surface;
     words = length work;
     floats = length floats;
   };
-  options = o;
-  count = count;
+  options = s .options;
+  count = s .count;
   fields = fields;
-  parameters = pointsOf (s .vertices) parameters;
-  points = pointsOf (s .vertices) points;
-  elements = tets (s .elements) elements;
+  parameters = pointsOf (s .sizes .vertices) parameters;
+  points = pointsOf (s .sizes .vertices) points;
+  elements = tets (s .sizes .elements) elements;
 }

@@ -4,6 +4,7 @@ pub mod Sort
 pub mod Rows
 pub mod Element
 pub mod Complex
+pub mod Measure
 pub mod Moves
 pub mod Tests
 pub mod Sets
@@ -19,6 +20,7 @@ pub mod Intake
 pub mod Star
 pub mod Euler
 pub mod LinkRows
+pub mod LinkTable
 pub mod List
 pub mod About
 pub mod Short

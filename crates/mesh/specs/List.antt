@@ -8,14 +8,14 @@ use mathlib.Core.List.{List, [], _∷_, _++_, map}
 use lib.Dec.{eqb, ltb, leb}
 use lib.ListN.{length, take, drop}
 use Rattle.geometry.specs.declared.point.Point.{Point}
-use Rattle.geometry.specs.Score.{score, bad}
 use Rattle.mesh.specs.declared.element.Pair.{Pair}
 use Rattle.mesh.specs.declared.element.Tet.{Tet}
 use Rattle.mesh.specs.declared.list.Listed.{Listed}
-use Rattle.mesh.specs.Words.{pointAt, zeroWords}
+use Rattle.mesh.specs.Words.{zeroWords}
 use Rattle.mesh.specs.Sort.{sort, unique}
 use Rattle.mesh.specs.Rows.{flat, leRow, eqRow}
 use Rattle.mesh.specs.Complex.{keep}
+use Rattle.mesh.specs.Measure.{measure, isBad}
 use Rattle.mesh.specs.Element.{pair, verticesOf, tets}
 use Rattle.mesh.specs.Euler.{endsOf, spread, edgeRows, triangleRows}
 
@@ -27,7 +27,7 @@ gone t = eqb (t .a) 4294967295
 
 -- an element whose score is bad
 unfoldable pub badIn : List Point → Tet → Bool
-badIn ps t = not (gone t) && bad (score (pointAt ps (t .a)) (pointAt ps (t .b)) (pointAt ps (t .c)) (pointAt ps (t .d)))
+badIn ps t = not (gone t) && isBad (measure ps) t
 
 -- ---- their simplices
 

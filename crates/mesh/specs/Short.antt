@@ -7,20 +7,16 @@ use lib.Dec.{leb}
 use lib.Ieee.{Float, lt}
 use lib.ListN.{length, take}
 use Rattle.geometry.specs.declared.point.Point.{Point}
-use Rattle.geometry.specs.Point.{difference, norm}
 use Rattle.geometry.specs.Word.{orderBits}
 use Rattle.mesh.specs.declared.element.Pair.{Pair}
 use Rattle.mesh.specs.declared.element.Tet.{Tet}
-use Rattle.mesh.specs.Words.{pointAt, zeroWords}
+use Rattle.mesh.specs.Words.{zeroWords}
 use Rattle.mesh.specs.Sort.{sort, unique}
 use Rattle.mesh.specs.Rows.{flat}
 use Rattle.mesh.specs.Complex.{keep}
+use Rattle.mesh.specs.Measure.{lengthOf}
 use Rattle.mesh.specs.Element.{samePair, tets}
 use Rattle.mesh.specs.List.{badIn, allEdges, lePair}
-
--- the root of an edge's dot product with itself
-abbrev pub lengthOf : List Point → Pair → Float
-lengthOf ps e = norm (difference (pointAt ps (e .a)) (pointAt ps (e .b)))
 
 -- is the edge shorter
 abbrev pub short : List Point → Float → Pair → Bool

@@ -4,6 +4,7 @@ use crate::boundary::boundary_in;
 use crate::element::Pair;
 use crate::element::Tet;
 use crate::element::Triple;
+use crate::measure::is_above;
 use crate::rows::eq_rows;
 use crate::rows::sort_rows;
 use crate::vertex::point_at;
@@ -15,7 +16,6 @@ use geometry::bounds::Bounds;
 use geometry::bounds::Options;
 use geometry::field::Field;
 use geometry::point::Point;
-use geometry::point::determinant;
 ghost use mathlib.Core.Path.{_≡_};
 ghost use mathlib.Core.Bool.{not, _&&_, _||_};
 ghost use mathlib.Core.List.{[], _∷_, _++_, map};
@@ -25,7 +25,7 @@ ghost use lib.ListN.{length, drop};
 ghost use lib.Seq.{paste};
 ghost use Rattle.mesh.specs.Boundary.{boundaryNumber};
 ghost use Rattle.mesh.specs.Element.{tets, cornersOf, verticesOf};
-ghost use Rattle.mesh.specs.Intake.{tooMany, tooShort, sized, sizedPoint, sizedField, pointBelow, boundsIn, cellsIn, optionsIn, fieldsIn, inBox, wellNumbered, vertexRow, noneTwice, uprightIn, settingsNumber, meshNumber, givenOf, intakeNumbers, intake};
+ghost use Rattle.mesh.specs.Intake.{tooMany, tooShort, sized, sizedPoint, sizedField, pointBelow, boundsIn, cellsIn, optionsIn, fieldsIn, inBox, wellNumbered, vertexRow, noneTwice, upright, settingsNumber, meshNumber, givenOf, intakeNumbers, intake};
 ghost use Rattle.mesh.specs.Rows.{rows, flat, leRow};
 ghost use Rattle.mesh.specs.Sort.{insert, sort};
 ghost use Rattle.mesh.specs.Tests.{every, nodup, under};
@@ -36,6 +36,13 @@ pub struct Sizes {
     pub vertices: usize,
     pub elements: usize,
     pub triples: usize,
+}
+
+// What stands beside the mesh in a call: its sizes, the options, and how many of the fields count.
+pub struct Settings {
+    pub sizes: Sizes,
+    pub options: Options,
+    pub count: u32,
 }
 
 // How long the lent slices are.
@@ -488,25 +495,14 @@ fn all_different(elements: &[u32], n: usize, work: &mut [u32]) -> bool
     different
 }
 
-// Whether the determinant of an element is above 0.
-fn upright(points: &[f64], t: Tet) -> bool
-    ensures { λ r. ⌜ r ≡ uprightIn (now (points .entry)) t ⌝ }
-{
-    let a = point_at(points, t.a as usize);
-    let b = point_at(points, t.b as usize);
-    let c = point_at(points, t.c as usize);
-    let d = point_at(points, t.d as usize);
-    0.0 < determinant(a, b, c, d)
-}
-
-// The same of each of n elements: not number 15.
-fn all_upright(points: &[f64], elements: &[u32], n: usize) -> bool
-    ensures { λ r. ⌜ r ≡ every (uprightIn (now (points .entry))) (tets n (now (elements .entry))) ⌝ }
+// Whether the determinant of each of n elements is above 0: not number 15.
+fn all_upright(points: &[f64], nv: usize, elements: &[u32], n: usize) -> bool
+    ensures { λ r. ⌜ r ≡ every (upright (pointsOf nv (now (points .entry)))) (tets n (now (elements .entry))) ⌝ }
 {
     let mut e = 0;
     while e < n {
         let t = tet_at(elements, e);
-        if !upright(points, t) {
+        if !is_above(points, nv, t) {
             return false;
         }
         e += 1;
@@ -515,13 +511,13 @@ fn all_upright(points: &[f64], elements: &[u32], n: usize) -> bool
 }
 
 // 10 or 11 by the counts, the lengths, the options and the fields, and else 0.
-fn settings_number(s: Sizes, l: Lengths, o: Options, count: u32, fields: [Field; 8]) -> u32
-    ensures { λ r. ⌜ r ≡ settingsNumber s l o count fields ⌝ }
+fn settings_number(s: Settings, l: Lengths, fields: [Field; 8]) -> u32
+    ensures { λ r. ⌜ r ≡ settingsNumber (s .sizes) l (s .options) (s .count) fields ⌝ }
 {
-    if !room(s, l) {
+    if !room(s.sizes, l) {
         return 10;
     }
-    if !settings_in(o, count, fields) {
+    if !settings_in(s.options, s.count, fields) {
         return 11;
     }
     0
@@ -550,45 +546,50 @@ fn mesh_number(
     if !all_different(elements, s.elements, work) {
         return 14;
     }
-    if !all_upright(points, elements, s.elements) {
+    if !all_upright(points, s.vertices, elements, s.elements) {
         return 15;
     }
     0
 }
 
-// The first of the numbers 10 to 15 whose condition applies, and 0 where none does. The work is all zeros afterwards; of the floats only
-// their length counts.
+// The first of the numbers 10 to 15 whose condition applies, and 0 where none does. `masks` and `surface` are the lengths of those slices;
+// the work is all zeros afterwards; of the floats only their length counts.
 fn intake_numbers(
-    sizes: Sizes,
-    o: Options,
-    count: u32,
+    s: Settings,
     fields: [Field; 8],
     parameters: &[f64],
     points: &[f64],
-    masks: &[u32],
+    masks: usize,
     elements: &[u32],
-    surface: &[u32],
+    surface: usize,
     work: &mut [u32],
     floats: &[f64],
 ) -> u32
-    ensures { λ r. ⌜ r ≡ intakeNumbers (givenOf sizes o count fields (now (parameters .entry)) (now (points .entry)) (now (masks .entry)) (now (elements .entry)) (now (surface .entry)) (now (work .entry)) (now (floats .entry))) ⌝ }
+    ensures { λ r. ⌜ r ≡ intakeNumbers (givenOf s fields (now (parameters .entry)) (now (points .entry)) masks (now (elements .entry)) surface (now (work .entry)) (now (floats .entry))) ⌝ }
     ensures { λ _. ⌜ now (work .exit) ≡ zeroWords (length (now (work .entry))) ⌝ }
 {
     clear(work);
     let l = Lengths {
         parameters: parameters.len(),
         points: points.len(),
-        masks: masks.len(),
+        masks: masks,
         elements: elements.len(),
-        surface: surface.len(),
+        surface: surface,
         words: work.len(),
         floats: floats.len(),
     };
-    let number = settings_number(sizes, l, o, count, fields);
+    let number = settings_number(s, l, fields);
     if number != 0 {
         return number;
     }
-    mesh_number(sizes, o.bounds, parameters, points, elements, work)
+    mesh_number(
+        s.sizes,
+        s.options.bounds,
+        parameters,
+        points,
+        elements,
+        work,
+    )
 }
 
 // 16 or 17 by the first bad key of n elements, and else 0. The first 36 n words of the work are the area of the boundary; the work is
@@ -611,29 +612,25 @@ fn boundary_number(elements: &[u32], n: usize, work: &mut [u32]) -> u32
     }
 }
 
-// Intake: the first number of the table whose condition applies, 10 to 17, and 0 where none does. Both work slices may hold anything
-// before, and are all zeros afterwards.
+// Intake: the first number of the table whose condition applies, 10 to 17, and 0 where none does. `masks` and `surface` are the lengths of
+// those slices. Both work slices may hold anything before, and are all zeros afterwards.
 pub fn intake(
-    sizes: Sizes,
-    o: Options,
-    count: u32,
+    s: Settings,
     fields: [Field; 8],
     parameters: &[f64],
     points: &[f64],
-    masks: &[u32],
+    masks: usize,
     elements: &[u32],
-    surface: &[u32],
+    surface: usize,
     work: &mut [u32],
     floats: &mut [f64],
 ) -> u32
-    ensures { λ r. ⌜ r ≡ intake (givenOf sizes o count fields (now (parameters .entry)) (now (points .entry)) (now (masks .entry)) (now (elements .entry)) (now (surface .entry)) (now (work .entry)) (now (floats .entry))) ⌝ }
+    ensures { λ r. ⌜ r ≡ intake (givenOf s fields (now (parameters .entry)) (now (points .entry)) masks (now (elements .entry)) surface (now (work .entry)) (now (floats .entry))) ⌝ }
     ensures { λ _. ⌜ now (work .exit) ≡ zeroWords (length (now (work .entry))) ⌝ }
     ensures { λ _. ⌜ now (floats .exit) ≡ zeroFloats (length (now (floats .entry))) ⌝ }
 {
     let number = intake_numbers(
-        sizes,
-        o,
-        count,
+        s,
         fields,
         parameters,
         points,
@@ -647,5 +644,5 @@ pub fn intake(
     if number != 0 {
         return number;
     }
-    boundary_number(elements, sizes.elements, work)
+    boundary_number(elements, s.sizes.elements, work)
 }

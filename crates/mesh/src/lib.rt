@@ -12,6 +12,7 @@ pub mod link;
 pub mod list;
 pub mod manifold;
 mod marks;
+pub mod measure;
 pub mod rows;
 pub mod shared;
 pub mod short;

@@ -1,21 +1,26 @@
 // Whether an edge a b may be collapsed as far as links and features go: the three tests of `link_ok`.
 //
 // An area for n elements has 88 n words. First the interior: the elements, 4 n words; seven rows of 4 words an element; as many words of
-// scratch. Then the boundary: the elements; the keys of the faces, 4 n rows of 3 words, sorted with the words behind them as scratch; three
-// rows of 3 words for each boundary face about the edge, at most 36 n words; as many words of scratch. A row is a simplex in rising order, its
-// last vertex repeated up to the row's width, and a mark: 1 from a simplex with a only, 2 with b only, 3 with both, 0 with neither.
+// scratch; where the elements are many, a table of the marks at vertices, by which rows are left out (specs/LinkTable). Then the boundary:
+// the elements; the keys of the faces, 4 n rows of 3 words, sorted with the words behind them as scratch; where the elements are many they
+// are first face rows of 4 words, ordered by counting (src/faces.rt). Behind the keys three rows of 3 words for each boundary face about the
+// edge, at most 36 n words; as many words of scratch. A row is a simplex in rising order, its last vertex repeated up to the row's width,
+// and a mark: 1 from a simplex with a only, 2 with b only, 3 with both, 0 with neither.
 use crate::element::Pair;
 use crate::element::Tet;
 use crate::element::Triple;
 use crate::element::face_key;
 use crate::euler::list_triangles;
+use crate::faces::order_faces;
 use crate::intake::four_different;
-use crate::list::vertex_point;
 use crate::manifold::clear_from;
 use crate::manifold::put_four;
 use crate::manifold::run_from;
 use crate::manifold::sort_from;
 use crate::vertex::tet_at;
+use crate::vertex::vertex_point;
+use crate::words::copy_words;
+use crate::words::put_word;
 use crate::words::word;
 use geometry::bounds::Bounds;
 use geometry::bounds::stratum;
@@ -24,20 +29,24 @@ ghost use mathlib.Core.Bool.{true, _&&_};
 ghost use mathlib.Core.List.{map};
 ghost use mathlib.Core.Logic.{_≢_};
 ghost use Prim.Native.Nat.{ℕ, _+_, _*_, _≤_, _<_};
-ghost use lib.ListN.{length, drop};
+ghost use lib.Dec.{eqb};
+ghost use lib.ListN.{length, take, drop};
 ghost use lib.Seq.{paste};
 ghost use Rattle.mesh.specs.Words.{pointsOf};
 ghost use Rattle.mesh.specs.Sort.{sort};
 ghost use Rattle.mesh.specs.Rows.{rows, flat, leRow};
-ghost use Rattle.mesh.specs.Complex.{mem, sub};
+ghost use Rattle.mesh.specs.Complex.{mem, sub, keep};
 ghost use Rattle.mesh.specs.Tests.{every, nodup};
 ghost use Rattle.mesh.specs.Element.{cornersOf, verticesOf, tets};
 ghost use Rattle.mesh.specs.Link.{interiorOk, boundaryAbout, boundaryOk};
 ghost use Rattle.mesh.specs.Feature.{bitsOf, shared, featureOk, linkOk};
 ghost use Rattle.mesh.specs.Group.{runs, sameFirst};
 ghost use Rattle.mesh.specs.Manifold.{filled, KeptBelow, Tested};
-ghost use Rattle.mesh.specs.List.{stacked};
-ghost use Rattle.mesh.specs.LinkRows.{markBy, mark, opposite, linkFace, subsetAt, elementRowAt, beside, linkPair, faceRows, faceIn, aloneAbout, facesAlone, aloneFaces, rowsOfFaces, marked, meetRun, rimBy, curveBy, featureRun, StrataOf, EdgeRows, stratumOf, linkFits, linkOkIn};
+ghost use Rattle.mesh.specs.Faces.{SortedKeys, TriedKeys};
+ghost use Rattle.mesh.specs.List.{stacked, Pushed};
+ghost use Rattle.mesh.specs.Euler.{spread};
+ghost use Rattle.mesh.specs.LinkRows.{markBy, mark, opposite, linkFace, subsetAt, elementRowAt, elementRows, beside, linkPair, faceRows, faceIn, aloneAbout, facesAlone, aloneFaces, rowsOfFaces, marked, meetRun, rimBy, curveBy, featureRun, StrataOf, EdgeRows, stratumOf, linkFits, linkOkIn};
+ghost use Rattle.mesh.specs.LinkTable.{tableWord, toldBoth, toldMark, bothFace, noneFace, bothRow, toldWords, toldTet};
 
 // ---- elements
 
@@ -187,6 +196,179 @@ fn list_links(area: &mut [u32], n: usize, a: u32, b: u32)
     }
 }
 
+// ---- the table of marks
+
+// The word of the vertex v in the table at `at`.
+fn table_word(area: &[u32], at: usize, v: u32) -> u32
+    requires { ⌜ at ≤ 983040 ⌝ }
+    ensures { λ r. ⌜ r ≡ tableWord at (now (area .entry)) v ⌝ }
+{
+    word(area, at + v as usize % 4096)
+}
+
+// Tells of the vertex v that an element with the mark m has it.
+fn tell_mark(area: &mut [u32], at: usize, v: u32, m: u32)
+    requires { ⌜ at ≤ 983040 ⌝ }
+    ensures { λ _. ⌜ KeptBelow at (now (area .entry)) (now (area .exit)) ⌝ }
+{
+    let i = v as usize % 4096;
+    let old = word(area, at + i);
+    put_word(area, at + i, old | m);
+}
+
+// Tells it of the four vertices of an element.
+fn tell_tet(area: &mut [u32], at: usize, t: Tet, m: u32)
+    requires { ⌜ at ≤ 983040 ⌝ }
+    ensures { λ _. ⌜ KeptBelow at (now (area .entry)) (now (area .exit)) ⌝ }
+{
+    tell_mark(area, at, t.a, m);
+    tell_mark(area, at, t.b, m);
+    tell_mark(area, at, t.c, m);
+    tell_mark(area, at, t.d, m);
+}
+
+// Fills the table behind the first 60 n words with the marks 1 and 2 of n elements.
+fn fill_table(area: &mut [u32], n: usize, a: u32, b: u32)
+    requires { ⌜ (n ≤ 16384) × (88 * n ≤ length (now area)) ⌝ }
+    ensures { λ _. ⌜ KeptBelow (60 * n) (now (area .entry)) (now (area .exit)) ⌝ }
+{
+    let at = 60 * n;
+    clear_from(area, at);
+    let mut e = 0;
+    while e < n {
+        let t = tet_at(area, e);
+        let m = tet_mark(t, a, b) % 3;
+        tell_tet(area, at, t, m);
+        e += 1;
+    }
+}
+
+// Whether v is told with both marks.
+fn told_both(area: &[u32], at: usize, v: u32) -> bool
+    requires { ⌜ at ≤ 983040 ⌝ }
+    ensures { λ r. ⌜ r ≡ toldBoth at (now (area .entry)) v ⌝ }
+{
+    table_word(area, at, v) == 3
+}
+
+// Whether v is told with the mark m.
+fn told_mark(area: &[u32], at: usize, m: u32, v: u32) -> bool
+    requires { ⌜ at ≤ 983040 ⌝ }
+    ensures { λ r. ⌜ r ≡ toldMark at (now (area .entry)) m v ⌝ }
+{
+    let w = table_word(area, at, v);
+    if w == m {
+        return true;
+    }
+    w == 3
+}
+
+// Whether all three vertices of a simplex are told with both marks.
+fn both_face(area: &[u32], at: usize, f: Triple) -> bool
+    requires { ⌜ at ≤ 983040 ⌝ }
+    ensures { λ r. ⌜ r ≡ bothFace at (now (area .entry)) f ⌝ }
+{
+    if !told_both(area, at, f.a) {
+        return false;
+    }
+    if !told_both(area, at, f.b) {
+        return false;
+    }
+    told_both(area, at, f.c)
+}
+
+// Whether none of them is.
+fn none_face(area: &[u32], at: usize, f: Triple) -> bool
+    requires { ⌜ at ≤ 983040 ⌝ }
+    ensures { λ r. ⌜ r ≡ noneFace at (now (area .entry)) f ⌝ }
+{
+    if told_both(area, at, f.a) {
+        return false;
+    }
+    if told_both(area, at, f.b) {
+        return false;
+    }
+    !told_both(area, at, f.c)
+}
+
+// Whether three vertices are told with the mark m, where it is 1 or 2.
+fn told_words(area: &[u32], at: usize, m: u32, f: Triple) -> bool
+    requires { ⌜ at ≤ 983040 ⌝ }
+    ensures { λ r. ⌜ r ≡ toldWords at (now (area .entry)) m (f .a) (f .b) (f .c) ⌝ }
+{
+    if m == 0 {
+        return true;
+    }
+    if m == 3 {
+        return true;
+    }
+    if !told_mark(area, at, m, f.a) {
+        return false;
+    }
+    if !told_mark(area, at, m, f.b) {
+        return false;
+    }
+    told_mark(area, at, m, f.c)
+}
+
+// Whether the table tells the marks of all n elements.
+fn all_told(area: &[u32], n: usize, a: u32, b: u32) -> bool
+    requires { ⌜ n ≤ 16384 ⌝ }
+    ensures { λ r. ⌜ r ≡ every (toldTet (60 * n) (now (area .entry)) a b) (tets n (now (area .entry))) ⌝ }
+{
+    let at = 60 * n;
+    let mut e = 0;
+    while e < n {
+        let t = tet_at(area, e);
+        let f = link_face(t, a, b);
+        if !told_words(area, at, tet_mark(t, a, b), f) {
+            return false;
+        }
+        e += 1;
+    }
+    true
+}
+
+// Whether k is 0 and none of the vertices of a face is told with both marks.
+fn leaves_out(area: &[u32], at: usize, f: Triple, k: usize) -> bool
+    requires { ⌜ at ≤ 983040 ⌝ }
+    ensures { λ r. ⌜ r ≡ (eqb k 0 && noneFace at (now (area .entry)) f) ⌝ }
+{
+    if k != 0 {
+        return false;
+    }
+    none_face(area, at, f)
+}
+
+// Writes those rows of n elements behind them whose vertices are told with both marks, and gives how many.
+fn list_told(area: &mut [u32], n: usize, a: u32, b: u32) -> usize
+    requires { ⌜ (n ≤ 16384) × (88 * n ≤ length (now area)) ⌝ }
+    ensures { λ r. ⌜ Pushed (keep (bothRow (60 * n) (now (area .entry))) (spread (elementRows a b) (tets n (now (area .entry))))) 4 (4 * n) (now (area .entry)) (now (area .exit)) r ⌝ }
+{
+    let m = 7 * n;
+    let at = 60 * n;
+    let mut c = 0;
+    let mut j = 0;
+    while j < m {
+        let t = tet_at(area, j / 7);
+        let f = link_face(t, a, b);
+        let k = j % 7;
+        if leaves_out(area, at, f, k) {
+            j += 7;
+        } else {
+            let g = subset(f, k);
+            if both_face(area, at, g) {
+                put_four(area, 4 * n + 4 * c, g.a, g.b, g.c, tet_mark(t, a, b));
+                c += 1;
+                j += 1;
+            } else {
+                j += 1;
+            }
+        }
+    }
+    c
+}
+
 // ---- runs
 
 // Whether one of the k rows of kw + 1 words from p on has the mark m.
@@ -237,14 +419,39 @@ fn links_meet(area: &[u32], p: usize, m: usize, kw: usize) -> bool
     true
 }
 
-// First test: "interior links meet exactly in the edge's link".
-fn interior_ok_in(area: &mut [u32], n: usize, a: u32, b: u32) -> bool
-    requires { ⌜ (n ≤ 16384) × (88 * n ≤ length (now area)) × (every (λ t. nodup (verticesOf t)) (tets n (now area)) ≡ true) × (a ≢ b) ⌝ }
+// The first test by all rows.
+fn interior_by_all(area: &mut [u32], n: usize, a: u32, b: u32) -> bool
+    requires { ⌜ (n ≤ 16384) × (88 * n ≤ length (now area)) × (every (λ t. nodup (verticesOf t)) (tets n (now area)) ≡ true) ⌝ }
     ensures { λ r. ⌜ (r ≡ interiorOk a b (tets n (now (area .entry)))) × KeptBelow (4 * n) (now (area .entry)) (now (area .exit)) ⌝ }
 {
     list_links(area, n, a, b);
     sort_from(area, 4 * n, 7 * n, 4);
     links_meet(area, 4 * n, 7 * n, 3)
+}
+
+// The first test by the rows that the table leaves.
+fn interior_by_table(area: &mut [u32], n: usize, a: u32, b: u32) -> bool
+    requires { ⌜ (n ≤ 16384) × (88 * n ≤ length (now area)) × (every (λ t. nodup (verticesOf t)) (tets n (now area)) ≡ true) × (every (toldTet (60 * n) (now area) a b) (tets n (now area)) ≡ true) ⌝ }
+    ensures { λ r. ⌜ (r ≡ interiorOk a b (tets n (now (area .entry)))) × KeptBelow (4 * n) (now (area .entry)) (now (area .exit)) ⌝ }
+{
+    let c = list_told(area, n, a, b);
+    sort_from(area, 4 * n, c, 4);
+    links_meet(area, 4 * n, c, 3)
+}
+
+// First test: "interior links meet exactly in the edge's link". By the table where the elements are many.
+fn interior_ok_in(area: &mut [u32], n: usize, a: u32, b: u32) -> bool
+    requires { ⌜ (n ≤ 16384) × (88 * n ≤ length (now area)) × (every (λ t. nodup (verticesOf t)) (tets n (now area)) ≡ true) × (a ≢ b) ⌝ }
+    ensures { λ r. ⌜ (r ≡ interiorOk a b (tets n (now (area .entry)))) × KeptBelow (4 * n) (now (area .entry)) (now (area .exit)) ⌝ }
+{
+    if n < 256 {
+        return interior_by_all(area, n, a, b);
+    }
+    fill_table(area, n, a, b);
+    if all_told(area, n, a, b) {
+        return interior_by_table(area, n, a, b);
+    }
+    interior_by_all(area, n, a, b)
 }
 
 // ---- faces
@@ -322,6 +529,45 @@ fn face_in(area: &[u32], p: usize) -> Triple
     }
 }
 
+// Leaves of the m rows of 4 words from p on their first three words, one row behind the other.
+fn drop_numbers(area: &mut [u32], p: usize, m: usize)
+    requires { ⌜ (p ≤ 65536) × (m ≤ 65536) × (p + 4 * m ≤ length (now area)) ⌝ }
+    ensures { λ _. ⌜ (rows 3 m (drop p (now (area .exit))) ≡ map (take 3) (rows 4 m (drop p (now (area .entry))))) × KeptBelow p (now (area .entry)) (now (area .exit)) ⌝ }
+{
+    let mut i = 0;
+    while i < m {
+        copy_words(area, p + 4 * i, p + 3 * i, 3);
+        i += 1;
+    }
+}
+
+// Tries to sort the keys of the faces of many elements by counting, and gives whether that went well.
+fn counted_keys(area: &mut [u32], n: usize) -> bool
+    requires { ⌜ (n ≤ 16384) × (88 * n ≤ length (now area)) ⌝ }
+    ensures { λ r. ⌜ TriedKeys n (now (area .entry)) (now (area .exit)) r ⌝ }
+{
+    if n < 256 {
+        return false;
+    }
+    if !order_faces(area, n) {
+        return false;
+    }
+    drop_numbers(area, 4 * n, 4 * n);
+    true
+}
+
+// Writes the sorted keys of the faces of n elements behind them.
+fn sorted_keys(area: &mut [u32], n: usize)
+    requires { ⌜ (n ≤ 16384) × (88 * n ≤ length (now area)) ⌝ }
+    ensures { λ _. ⌜ SortedKeys n (now (area .entry)) (now (area .exit)) ⌝ }
+{
+    if counted_keys(area, n) {
+        return;
+    }
+    list_triangles(area, n);
+    sort_from(area, 4 * n, 4 * n, 3);
+}
+
 // Whether k equal keys are one face with a or b.
 fn alone_about(k: usize, f: Triple, a: u32, b: u32) -> bool
     ensures { λ r. ⌜ r ≡ aloneAbout a b k f ⌝ }
@@ -360,8 +606,7 @@ fn list_boundary(area: &mut [u32], n: usize, a: u32, b: u32) -> usize
     requires { ⌜ (n ≤ 16384) × (88 * n ≤ length (now area)) ⌝ }
     ensures { λ r. ⌜ (rows 3 r (drop (16 * n) (now (area .exit))) ≡ sort leRow (rowsOfFaces a b (aloneFaces a b (tets n (now (area .entry)))))) × (r ≤ 12 * n) × KeptBelow (4 * n) (now (area .entry)) (now (area .exit)) ⌝ }
 {
-    list_triangles(area, n);
-    sort_from(area, 4 * n, 4 * n, 3);
+    sorted_keys(area, n);
     let c = 3 * list_alone(area, n, a, b);
     sort_from(area, 16 * n, c, 3);
     c

@@ -8,17 +8,14 @@ use crate::euler::list_triangles;
 use crate::manifold::clear_from;
 use crate::manifold::put_four;
 use crate::manifold::sort_from;
+use crate::measure::is_bad_element;
 use crate::rows::unique_rows;
-use crate::vertex::point_at;
 use crate::vertex::tet_at;
-use geometry::point::Point;
-use geometry::score::is_bad;
-use geometry::score::score;
 ghost use mathlib.Core.Path.{_≡_};
 ghost use mathlib.Core.List.{_++_, map};
 ghost use Prim.Native.Nat.{_+_, _-_, _*_, _≤_, _<_};
 ghost use lib.ListN.{length, take, drop};
-ghost use Rattle.mesh.specs.Words.{pointAt, pointsOf, zeroWords};
+ghost use Rattle.mesh.specs.Words.{pointsOf, zeroWords};
 ghost use Rattle.mesh.specs.Rows.{rows, flat, uniqueRows, uniqueArea};
 ghost use Rattle.mesh.specs.Complex.{keep};
 ghost use Rattle.mesh.specs.Element.{tets, verticesOf};
@@ -42,21 +39,6 @@ fn list_fits(n: usize, m: usize) -> bool
     32 * n <= m
 }
 
-// The point of the vertex v of nv, 0 0 0 past the last.
-pub fn vertex_point(points: &[f64], nv: usize, v: u32) -> Point
-    ensures { λ r. ⌜ r ≡ pointAt (pointsOf nv (now (points .entry))) v ⌝ }
-{
-    let i = v as usize;
-    if i < nv {
-        return point_at(points, i);
-    }
-    Point {
-        x: 0.0,
-        y: 0.0,
-        z: 0.0,
-    }
-}
-
 // Whether an element is bad; no element is in a slot whose first word is 0xFFFFFFFF.
 pub(crate) fn is_bad_tet(points: &[f64], nv: usize, t: Tet) -> bool
     ensures { λ r. ⌜ r ≡ badIn (pointsOf nv (now (points .entry))) t ⌝ }
@@ -64,11 +46,7 @@ pub(crate) fn is_bad_tet(points: &[f64], nv: usize, t: Tet) -> bool
     if t.a == 0xffff_ffff {
         return false;
     }
-    let a = vertex_point(points, nv, t.a);
-    let b = vertex_point(points, nv, t.b);
-    let c = vertex_point(points, nv, t.c);
-    let d = vertex_point(points, nv, t.d);
-    is_bad(score(a, b, c, d))
+    is_bad_element(points, nv, t)
 }
 
 // Writes the bad elements of n slots behind them, and gives how many.

@@ -9,11 +9,9 @@ use crate::group::high_half;
 use crate::group::low_half;
 use crate::list::is_bad_tet;
 use crate::list::set_from;
-use crate::list::vertex_point;
 use crate::manifold::put_four;
+use crate::measure::edge_length;
 use crate::vertex::tet_at;
-use geometry::point::norm;
-use geometry::point::sub;
 use geometry::word::order_bits;
 ghost use mathlib.Core.Path.{_≡_};
 ghost use mathlib.Core.List.{[], _∷_};
@@ -23,7 +21,7 @@ ghost use Rattle.mesh.specs.Words.{pointsOf};
 ghost use Rattle.mesh.specs.Complex.{keep};
 ghost use Rattle.mesh.specs.Element.{pair, tets};
 ghost use Rattle.mesh.specs.List.{badIn, edgesOf, allEdges, Pushed};
-ghost use Rattle.mesh.specs.Short.{lengthOf, shortFits, Shorts, shortIn, shortRows};
+ghost use Rattle.mesh.specs.Short.{shortFits, Shorts, shortIn, shortRows};
 
 // Whether n is at most 65,536 and an area for n slots fits into m words.
 fn short_fits(n: usize, m: usize) -> bool
@@ -43,15 +41,6 @@ fn rising(e: Pair) -> Pair
         return e;
     }
     Pair { a: e.b, b: e.a }
-}
-
-// The length of an edge.
-fn edge_length(points: &[f64], nv: usize, e: Pair) -> f64
-    ensures { λ r. ⌜ r ≡ lengthOf (pointsOf nv (now (points .entry))) e ⌝ }
-{
-    let a = vertex_point(points, nv, e.a);
-    let b = vertex_point(points, nv, e.b);
-    norm(sub(a, b))
 }
 
 // Writes the row of an edge at p where it is shorter than the limit, and gives how many rows that is.

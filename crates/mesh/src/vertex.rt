@@ -4,6 +4,7 @@ use crate::words::float;
 use crate::words::word;
 use geometry::point::Point;
 ghost use mathlib.Core.Path.{_≡_};
+ghost use Rattle.mesh.specs.Words.{pointAt, pointsOf};
 ghost use Rattle.mesh.specs.Intake.{tetAt, pointIn};
 
 // The element e, four words each.
@@ -43,5 +44,20 @@ pub fn point_at(points: &[f64], v: usize) -> Point
         x: float(points, i),
         y: float(points, i + 1),
         z: float(points, i + 2),
+    }
+}
+
+// The point of the vertex v of nv, 0 0 0 past the last.
+pub fn vertex_point(points: &[f64], nv: usize, v: u32) -> Point
+    ensures { λ r. ⌜ r ≡ pointAt (pointsOf nv (now (points .entry))) v ⌝ }
+{
+    let i = v as usize;
+    if i < nv {
+        return point_at(points, i);
+    }
+    Point {
+        x: 0.0,
+        y: 0.0,
+        z: 0.0,
     }
 }

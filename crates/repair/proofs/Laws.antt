@@ -1,5 +1,6 @@
 -- Laws by subject. `Wholeness` proves demand 3.
 pub mod Results
+pub mod Measured
 pub mod Answers
 pub mod Improve
 pub mod Smooth

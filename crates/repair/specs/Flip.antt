@@ -19,7 +19,8 @@ use Rattle.mesh.specs.Link.{without}
 use Rattle.mesh.specs.Element.{samePair, tet, verticesOf, cornersOf, keyOf}
 use Rattle.mesh.specs.Boundary.{sameTriple, leTriple, allFaces, boundaryNumber, boundaryOf}
 use Rattle.mesh.specs.Group.{numbers}
-use Rattle.repair.specs.Mesh.{Mesh, Result, made, refused, Measure, measure, any, allEdges, lePair, isBad, badCount, lowestOf}
+use Rattle.mesh.specs.Measure.{Measure, measure, isBad, badCount, lowestOf}
+use Rattle.repair.specs.Mesh.{Mesh, Result, made, refused, any, allEdges, lePair}
 
 -- ---- slots
 
@@ -151,11 +152,15 @@ unfoldable pub endNumber : List Triple → List Tet → ℕ
 endNumber given ts =
     cond (eqb (boundaryNumber ts) 0) (cond (sameTriples (sortedKeys (boundaryOf ts)) (sortedKeys given)) 0 23) (boundaryNumber ts)
 
--- "The count is that of .. flips made"
-unfoldable pub flip : Mesh → Result
-flip m =
-    let s = flips (measure (m .points)) (m .elements) in
+-- "The count is that of .. flips made": the pass by a measure
+unfoldable pub flipBy : Measure → Mesh → Result
+flipBy μ m =
+    let s = flips μ (m .elements) in
     let ts = live (s .slots) in
     cond (eqb (endNumber (m .surface) ts) 0)
     (made (s .flips) (record { parameters = m .parameters; points = m .points; masks = m .masks; elements = ts; surface = boundaryOf ts }))
     (refused (endNumber (m .surface) ts))
+
+-- by that of its points
+unfoldable pub flip : Mesh → Result
+flip m = flipBy (measure (m .points)) m

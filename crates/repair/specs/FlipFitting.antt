@@ -12,8 +12,8 @@ use Rattle.mesh.specs.Tests.{every}
 use Rattle.mesh.specs.Element.{tets}
 use Rattle.mesh.specs.Manifold.{triples}
 use Rattle.mesh.specs.Intake.{wellNumbered}
+use Rattle.mesh.specs.Measure.{measure}
 use Rattle.repair.specs.declared.answer.Answer.{Answer}
-use Rattle.repair.specs.Mesh.{measure}
 use Rattle.repair.specs.Flip.{State, live, flips}
 use Rattle.repair.specs.FlipEnd.{flipEnd}
 

@@ -21,7 +21,8 @@ use Rattle.mesh.specs.Boundary.{boundaryNumber, boundaryOf}
 use Rattle.mesh.specs.Feature.{bitsOf, linkOk}
 use Rattle.mesh.specs.Manifold.{nonmanifold}
 use Rattle.mesh.specs.Group.{groupOf}
-use Rattle.repair.specs.Mesh.{Mesh, Result, made, refused, Measure, measure, any, has, allEdges, lePair, isBad, badCount, lowestOf}
+use Rattle.mesh.specs.Measure.{Measure, measure, isBad, badCount, lowestOf}
+use Rattle.repair.specs.Mesh.{Mesh, Result, made, refused, any, has, allEdges, lePair}
 
 -- ---- the edges that a round takes
 
@@ -177,9 +178,13 @@ renumbered m ts =
 unfoldable pub endNumber : Mesh → ℕ
 endNumber m = cond (eqb (boundaryNumber (m .elements)) 0) (cond (nonmanifold (m .surface)) 22 0) (boundaryNumber (m .elements))
 
--- "The count is that of vertices replaced over all rounds"
-unfoldable pub improve : Options → Mesh → Result
-improve o m =
-    let s = rounds o m (measure (m .points)) (o .passes) (record { elements = m .elements; replaced = [] }) in
+-- "The count is that of vertices replaced over all rounds": the pass by a measure
+unfoldable pub improveBy : Measure → Options → Mesh → Result
+improveBy μ o m =
+    let s = rounds o m μ (o .passes) (record { elements = m .elements; replaced = [] }) in
     let n = renumbered m (s .elements) in
     cond (eqb (endNumber n) 0) (made (length (s .replaced)) n) (refused (endNumber n))
+
+-- by that of its points
+unfoldable pub improve : Options → Mesh → Result
+improve o m = improveBy (measure (m .points)) o m

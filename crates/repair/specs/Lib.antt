@@ -1,6 +1,5 @@
 -- The definitions of the passes, a file for each subject; those from Solve on serve the contracts of private functions: those of
--- projection, of `smooth`, of `improve`, and from Trio on of `flip`. One of them stands in the contract of a pass too: `regionsOf` (Regions)
--- in that of `smooth`.
+-- projection, of `smooth`, of `improve`, and from Trio on of `flip`.
 pub mod Mesh
 pub mod Project
 pub mod Improve

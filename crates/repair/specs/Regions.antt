@@ -1,9 +1,9 @@
--- The regions as they are lent, the test of a projected candidate, the candidates by number, and the parts of the neighbours' mean. For
--- the contracts of the private functions of candidate.rt; definitions only.
+-- The test of a projected candidate, the candidates by number, and the parts of the neighbours' mean. For the contracts of the private
+-- functions of candidate.rt; definitions only.
 use Prim.Native.Nat.{ℕ}
-use mathlib.Core.Bool.{Bool, true, false, not, _&&_, _||_}
+use mathlib.Core.Bool.{Bool, not, _&&_, _||_}
 use mathlib.Core.List.{List, [], _∷_, _++_, map}
-use mathlib.Core.Option.{Option, none, some}
+use mathlib.Core.Option.{Option}
 use lib.IntN.{pos}
 use lib.Ieee.{Float, binary64, lt, ofInt}
 use lib.ListN.{getD}
@@ -16,11 +16,6 @@ use Rattle.geometry.specs.Point.{difference, norm}
 use Rattle.geometry.specs.Bounds.{spacing}
 use Rattle.mesh.specs.Intake.{inBox}
 use Rattle.repair.specs.Smooth.{outsideAll, along, stepCandidates}
-
--- "an absent list and an empty list are different": none where no list is given; also for the contract of `smooth`
-abbrev pub regionsOf : Bool → List ℕ → Option (List ℕ)
-regionsOf false regions = none
-regionsOf true regions = some regions
 
 -- `allowed` of specs/Smooth.antt, which asks of the active fields only whether there is none
 abbrev pub allowedBy : Options → List Field → Option (List ℕ) → Point → Bool → Point → Bool

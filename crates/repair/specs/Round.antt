@@ -9,7 +9,8 @@ use Rattle.mesh.specs.declared.element.Pair.{Pair}
 use Rattle.mesh.specs.declared.star.Index.{Index}
 use Rattle.mesh.specs.Complex.{mem}
 use Rattle.mesh.specs.Element.{pair}
-use Rattle.repair.specs.Mesh.{Mesh, measure}
+use Rattle.mesh.specs.Measure.{measure}
+use Rattle.repair.specs.Mesh.{Mesh}
 use Rattle.repair.specs.Improve.{State, stratumRule, activeGroup, pairOff, pairsFor, mayGo}
 use Rattle.repair.specs.Layout.{Stands, Pairs, Same, pairsAt, pairsIn}
 

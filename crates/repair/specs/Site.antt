@@ -4,12 +4,13 @@ use Prim.Native.Nat.{ℕ, zero, suc, _+_, _*_, _≤_, _<_}
 use mathlib.Core.Path.{_≡_}
 use mathlib.Core.Bool.{true, cond}
 use mathlib.Core.List.{List, [], _∷_, map}
-use mathlib.Core.Option.{none, some}
+use mathlib.Core.Option.{Option, none, some}
 use lib.Dec.{eqb}
 use lib.Ieee.{Float}
 use lib.ListN.{length, take, drop, set}
 use Rattle.geometry.specs.declared.point.Point.{Point}
 use Rattle.geometry.specs.declared.bounds.Options.{Options}
+use Rattle.geometry.specs.declared.field.Field.{Field}
 use Rattle.geometry.specs.Bounds.{spacing, canonical}
 use Rattle.mesh.specs.declared.element.Tet.{Tet}
 use Rattle.mesh.specs.declared.star.Index.{Index}
@@ -23,12 +24,13 @@ use Rattle.mesh.specs.Group.{groupRows}
 use Rattle.mesh.specs.Intake.{tetAt, wellNumbered}
 use Rattle.mesh.specs.Star.{Complete}
 use Rattle.repair.specs.declared.trial.Site.{Site}
-use Rattle.repair.specs.declared.trial.Measured.{Measured}
 use Rattle.repair.specs.declared.trial.Trial.{Trial}
-use Rattle.repair.specs.declared.best.Best as Found
+use Rattle.repair.specs.declared.best.Best as Kept
 use Rattle.repair.specs.declared.best.Start.{Start}
-use Rattle.repair.specs.Mesh.{Mesh, measure, scoreOf}
-use Rattle.repair.specs.Smooth.{State, Best, neighbours, mean, keptOn, placed, moveTo, aboutGroup}
+use Rattle.repair.specs.declared.project.Projected.{Projected}
+use Rattle.repair.specs.declared.project.Projected.the-variants.{Found, Nothing}
+use Rattle.repair.specs.Mesh.{Mesh}
+use Rattle.repair.specs.Smooth.{State, Best, neighbours, mean, mapped, keptOn, placed, moveTo, better, allowed, aboutGroup}
 use Rattle.repair.specs.Layout.{Room, slotsIn}
 use Rattle.repair.specs.Regions.{nine}
 
@@ -59,10 +61,6 @@ stateOf nv parameters points moved = record { parameters = pointsOf nv parameter
 unfoldable pub trialPoints : Options → List Float → List Float → List ℕ → Site → Point → List Point
 trialPoints o parameters points w s p = moveTo o (stateOf (s .vertices) parameters points 0) (members w (s .group) (s .count)) p .points
 
--- what is measured of an element
-abbrev pub measuredOf : List Point → Tet → Measured
-measuredOf ps t = record { above = measure ps .above t; score = scoreOf ps t }
-
 -- t is s with the point p for the vertex v of nv, and the same behind the vertices
 pub record Put (nv v : ℕ) (p : Point) (s t : List Float) : Type 0 where
   pub points : pointsOf nv t ≡ set (pointsOf nv s) v p
@@ -75,9 +73,12 @@ pub record Placed (nv : ℕ) (new : ℕ → Point) (g : List ℕ) (s t : List Fl
   pub rest : drop (3 * nv) t ≡ drop (3 * nv) s
   pub long : length t ≡ length s
 
--- where a vertex goes with its group
+-- where a vertex goes with its group: its parameters, and its point
+abbrev pub newParameters : Options → ℕ → List Float → Point → ℕ → Point
+newParameters o nv parameters p v = keptOn o (pointAt (pointsOf nv parameters) v) p
+
 abbrev pub newPoint : Options → ℕ → List Float → Point → ℕ → Point
-newPoint o nv parameters p v = keptOn o (pointAt (pointsOf nv parameters) v) p
+newPoint o nv parameters p v = mapped (newParameters o nv parameters p v)
 
 -- the buffers P and Q of parameters and points are now P′ and Q′: they hold the state s, and behind the vertices what they held
 pub record Turned (nv : ℕ) (s : State) (P Q P′ Q′ : List Float) (moved : ℕ) : Type 0 where
@@ -89,12 +90,22 @@ pub record Turned (nv : ℕ) (s : State) (P Q P′ Q′ : List Float) (moved : �
 -- ---- the best candidate
 
 -- the best so far as a value
-abbrev pub bestIn : Found.Best → Best
+abbrev pub bestIn : Kept.Best → Best
 bestIn b = record { lowest = b .lowest; found = cond (b .found) (some (b .point)) none }
 
 -- the better of the best so far and p, whose trial is t
-unfoldable pub replaced : Found.Best → Point → Trial → Found.Best
+unfoldable pub replaced : Kept.Best → Point → Trial → Kept.Best
 replaced best p t = cond (t .better) (record { lowest = t .lowest; found = true; point = p }) best
+
+-- a candidate as it was projected, where it is allowed
+abbrev pub permitted : Options → List Field → Option (List ℕ) → Point → List Field → Projected → Projected
+permitted o fields regions origin active Nothing = Nothing
+permitted o fields regions origin active (Found p) = cond (allowed o fields regions origin active p) (Found p) Nothing
+
+-- the better of the best so far and a candidate that is allowed, for the group g and the elements ts about it
+abbrev pub compared : Options → List Tet → State → List ℕ → Best → Projected → Best
+compared o ts s g best Nothing = best
+compared o ts s g best (Found p) = better ts (moveTo o s g p .points) p best
 
 -- no candidate yet
 abbrev pub noneYet : Float → Best

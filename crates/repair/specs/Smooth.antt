@@ -22,9 +22,10 @@ use Rattle.mesh.specs.Complex.{keep}
 use Rattle.mesh.specs.Tests.{every}
 use Rattle.mesh.specs.Group.{numbers, groups}
 use Rattle.mesh.specs.Intake.{inBox}
+use Rattle.mesh.specs.Measure.{measure, lowestOf}
 use Rattle.repair.specs.declared.project.Projected.{Projected}
 use Rattle.repair.specs.declared.project.Projected.the-variants.{Found, Nothing}
-use Rattle.repair.specs.Mesh.{Mesh, Result, made, measure, any, has, lowestOf}
+use Rattle.repair.specs.Mesh.{Mesh, Result, made, any, has}
 use Rattle.repair.specs.Project.{project}
 
 -- ---- fields and regions
@@ -82,7 +83,7 @@ pub record State : Type 0 where
   pub moved : ℕ
 
 -- "The map is the identity": the point of a vertex with these parameters
-abbrev pub mapped : Point → Point
+unfoldable pub mapped : Point → Point
 mapped p = p
 
 -- p, but that a periodic coordinate of q on hi stays there

@@ -1,9 +1,9 @@
 -- A call of a pass on whole buffers (document 01, "Runs of passes", "Where each number is given"): intake, the pass on values, and what the
 -- buffers hold afterwards. Then lists of calls. Definitions only.
 use Prim.Native.Nat.{ℕ, zero, suc, _+_}
-use mathlib.Core.Bool.{cond}
+use mathlib.Core.Bool.{Bool, true, false, cond}
 use mathlib.Core.List.{List, [], _∷_, _++_}
-use mathlib.Core.Option.{Option}
+use mathlib.Core.Option.{Option, none, some}
 use lib.Dec.{eqb}
 use lib.Ieee.{Float}
 use lib.ListN.{length, take, drop, getD}
@@ -15,6 +15,7 @@ use Rattle.mesh.specs.declared.element.Tet.{Tet}
 use Rattle.mesh.specs.declared.intake.Sizes.{Sizes}
 use Rattle.mesh.specs.Words.{pointsOf}
 use Rattle.mesh.specs.Element.{triple, tets, verticesOf, cornersOf}
+use Rattle.mesh.specs.declared.intake.Settings.{Settings}
 use Rattle.mesh.specs.declared.intake.Lengths.{Lengths}
 use Rattle.mesh.specs.Intake.{Given, intake}
 use Rattle.repair.specs.declared.answer.Answer.{Answer}
@@ -46,6 +47,23 @@ pub record Call : Type 0 where
   pub regions : Option (List ℕ)
   pub words : ℕ
   pub floats : ℕ
+
+-- ---- what is lent
+
+-- the buffers of a mesh, with its sizes
+abbrev pub held : Sizes → List Float → List Float → List ℕ → List ℕ → List ℕ → State
+held sizes parameters points masks elements surface =
+    record { parameters = parameters; points = points; masks = masks; elements = elements; surface = surface; sizes = sizes }
+
+-- the other inputs of a call, with the two slices of its work
+abbrev pub callOf : Pass → Settings → List Field → Option (List ℕ) → List ℕ → List Float → Call
+callOf pass s fields regions work floats =
+    record { pass = pass; options = s .options; fields = fields; count = s .count; regions = regions; words = length work; floats = length floats }
+
+-- "an absent list and an empty list are different": none where no list is given
+abbrev pub regionsOf : Bool → List ℕ → Option (List ℕ)
+regionsOf false regions = none
+regionsOf true regions = some regions
 
 -- ---- the answer
 

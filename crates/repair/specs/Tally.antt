@@ -10,8 +10,8 @@ use Rattle.geometry.specs.Score.{bad}
 use Rattle.mesh.specs.declared.element.Tet.{Tet}
 use Rattle.mesh.specs.Tests.{every, nodup}
 use Rattle.mesh.specs.Element.{verticesOf}
+use Rattle.mesh.specs.Measure.{Measure, badCount, lowestOf}
 use Rattle.repair.specs.declared.tally.Tally.{Tally}
-use Rattle.repair.specs.Mesh.{Measure, badCount, lowestOf}
 
 -- no elements yet
 abbrev pub started : Tally

@@ -19,7 +19,7 @@ use Rattle.mesh.specs.Group.{rankOf}
 use Rattle.mesh.specs.declared.intake.Lengths.{Lengths}
 use Rattle.mesh.specs.Tests.{every}
 use Rattle.mesh.specs.Intake.{wellNumbered, allDifferent, intake}
-use Rattle.repair.specs.Mesh.{measure, determinantOf, scoreOf, lowestOf}
+use Rattle.mesh.specs.Measure.{measure, determinantOf, scoreOf, lowestOf}
 use Rattle.repair.specs.Step.{State, Call, Pass, meshOf, given, numberOf, step, run, improveCounts}
 
 -- ---- "any mesh that passes intake and whose surface triples are its boundary"

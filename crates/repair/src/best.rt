@@ -1,4 +1,6 @@
 // The best of the candidates for a group.
+use crate::candidate::active_count;
+use crate::candidate::active_fields;
 use crate::candidate::allowed;
 use crate::candidate::candidate;
 use crate::project::Projected;
@@ -10,12 +12,13 @@ use geometry::bounds::Options;
 use geometry::bounds::spacing;
 use geometry::field::Field;
 use geometry::point::Point;
+use mesh::intake::Settings;
 ghost use mathlib.Core.Path.{_≡_};
 ghost use lib.ListN.{length, take};
-ghost use Rattle.repair.specs.Smooth.{bestOf, tried};
+ghost use Rattle.repair.specs.Smooth.{chosen, bestOf};
 ghost use Rattle.repair.specs.Project.{project};
-ghost use Rattle.repair.specs.Regions.{regionsOf};
-ghost use Rattle.repair.specs.Site.{InRange, members, about, stateOf, bestIn, replaced, noneYet, firstOf, startList};
+ghost use Rattle.repair.specs.Step.{regionsOf};
+ghost use Rattle.repair.specs.Site.{InRange, members, about, stateOf, bestIn, replaced, permitted, compared, noneYet, firstOf, startList};
 
 // The best so far: the lowest score with it, and the point where there is one.
 pub struct Best {
@@ -46,40 +49,54 @@ fn better(best: Best, p: Point, t: Trial) -> Best
     }
 }
 
-// The better of the best so far and a candidate, once it is projected: the candidate where its lowest score is higher by more than 1e-10.
-// `active` are the first m of the fields to project onto.
-fn try_candidate(
-    o: Options,
-    count: usize,
+// The candidate c once it is projected, where it may be taken. `active` are the first m of the fields to project onto.
+fn permitted(
+    s: Settings,
     fields: [Field; 8],
     listed: bool,
     regions: &[u32],
+    origin: Point,
+    active: [Field; 8],
+    m: usize,
+    c: Point,
+) -> Projected
+    requires { ⌜ length (take m active) ≡ m ⌝ }
+    ensures { λ r. ⌜ r ≡ permitted (s .options) (take (s .count) fields) (regionsOf listed (now (regions .entry))) origin (take m active)
+        (project (s .options .bounds) origin (take m active) c) ⌝ }
+{
+    let n = s.count as usize;
+    let q = project_candidate(s.options.bounds, origin, active, m, c);
+    match q {
+        Projected::Nothing => Projected::Nothing,
+        Projected::Found(p) => {
+            if !allowed(s.options, fields, n, listed, regions, origin, m, p) {
+                return Projected::Nothing;
+            }
+            Projected::Found(p)
+        }
+    }
+}
+
+// The better of the best so far and a candidate that may be taken: the candidate where its lowest score is higher by more than 1e-10.
+fn try_candidate(
+    o: Options,
     parameters: &[f64],
     points: &[f64],
     elements: &[u32],
     work: &[u32],
-    s: Site,
-    origin: Point,
-    active: [Field; 8],
-    m: usize,
+    site: Site,
     best: Best,
-    c: Point,
+    q: Projected,
 ) -> Best
-    requires { ⌜ InRange s × (length (take m active) ≡ m) ⌝ }
-    ensures { λ r. ⌜ bestIn r ≡ tried o (take count fields) (regionsOf listed (now (regions .entry))) (about (now (elements .entry)) (now (work .entry)) (s .area) (s .about))
-        (stateOf (s .vertices) (now (parameters .entry)) (now (points .entry)) 0) (members (now (work .entry)) (s .group) (s .count)) origin (take m active)
-        (bestIn best) (project (o .bounds) origin (take m active) c) ⌝ }
+    requires { ⌜ InRange site ⌝ }
+    ensures { λ r. ⌜ bestIn r ≡ compared o (about (now (elements .entry)) (now (work .entry)) (site .area) (site .about))
+        (stateOf (site .vertices) (now (parameters .entry)) (now (points .entry)) 0) (members (now (work .entry)) (site .group) (site .count)) (bestIn best) q ⌝ }
 {
-    let b = o.bounds;
-    let q = project_candidate(b, origin, active, m, c);
     match q {
         Projected::Nothing => best,
         Projected::Found(p) => {
-            if !allowed(o, fields, count, listed, regions, origin, m, p) {
-                return best;
-            }
             let bar = best.lowest + 1e-10;
-            let t = try_point(o, parameters, points, elements, work, s, p, bar);
+            let t = try_point(o, parameters, points, elements, work, site, p, bar);
             better(best, p, t)
         }
     }
@@ -92,10 +109,10 @@ fn first_candidate(s: Start) -> u32
     if s.near == 0 { 3 } else { 0 }
 }
 
-// The best of the nine candidates, or of the last six where there is no mean; `lowest` is the lowest score about the group as it is.
+// The best of the nine candidates, or of the last six where there is no mean, for the group of `site`, whose first vertex has this mask;
+// `lowest` is the lowest score about the group as it is.
 pub(crate) fn best_candidate(
-    o: Options,
-    count: usize,
+    s: Settings,
     fields: [Field; 8],
     listed: bool,
     regions: &[u32],
@@ -103,17 +120,20 @@ pub(crate) fn best_candidate(
     points: &[f64],
     elements: &[u32],
     work: &[u32],
-    s: Site,
+    site: Site,
     start: Start,
-    active: [Field; 8],
-    m: usize,
+    mask: u32,
     lowest: f64,
 ) -> Best
-    requires { ⌜ InRange s × (length (take m active) ≡ m) ⌝ }
-    ensures { λ r. ⌜ bestIn r ≡ bestOf o (take count fields) (regionsOf listed (now (regions .entry))) (about (now (elements .entry)) (now (work .entry)) (s .area) (s .about))
-        (stateOf (s .vertices) (now (parameters .entry)) (now (points .entry)) 0) (members (now (work .entry)) (s .group) (s .count)) (start .origin) (take m active)
-        (noneYet lowest) (startList start o) ⌝ }
+    requires { ⌜ InRange site ⌝ }
+    ensures { λ r. ⌜ bestIn r ≡ bestOf (s .options) (take (s .count) fields) (regionsOf listed (now (regions .entry))) (about (now (elements .entry)) (now (work .entry)) (site .area) (site .about))
+        (stateOf (site .vertices) (now (parameters .entry)) (now (points .entry)) 0) (members (now (work .entry)) (site .group) (site .count)) (start .origin) (chosen mask (take (s .count) fields))
+        (noneYet lowest) (startList start (s .options)) ⌝ }
 {
+    let o = s.options;
+    let n = s.count as usize;
+    let active = active_fields(mask, fields, n);
+    let m = active_count(mask, fields, n);
     let original = start.original;
     let origin = start.origin;
     let mean = start.mean;
@@ -126,23 +146,8 @@ pub(crate) fn best_candidate(
     let mut k = first_candidate(start);
     while k < 9 {
         let c = candidate(k, original, origin, mean, h);
-        best = try_candidate(
-            o,
-            count,
-            fields,
-            listed,
-            regions,
-            parameters,
-            points,
-            elements,
-            work,
-            s,
-            origin,
-            active,
-            m,
-            best,
-            c,
-        );
+        let q = permitted(s, fields, listed, regions, origin, active, m, c);
+        best = try_candidate(o, parameters, points, elements, work, site, best, q);
         k += 1;
     }
     best

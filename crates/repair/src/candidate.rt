@@ -8,7 +8,7 @@ use geometry::point::Point;
 use geometry::point::norm;
 use geometry::point::sub;
 use mesh::intake::in_box;
-use mesh::list::vertex_point;
+use mesh::vertex::vertex_point;
 ghost use mathlib.Core.Path.{_≡_};
 ghost use mathlib.Core.Bool.{cond, _&&_};
 ghost use mathlib.Core.List.{map};
@@ -19,7 +19,8 @@ ghost use lib.ListN.{length, take, getD};
 ghost use Rattle.geometry.specs.Literals.{quarter};
 ghost use Rattle.mesh.specs.Words.{pointAt, pointsOf};
 ghost use Rattle.repair.specs.Smooth.{chosen, outside, outsideAll, mean, along, stepCandidates, keptOn};
-ghost use Rattle.repair.specs.Regions.{regionsOf, allowedBy, shares, candidateAt, sum, divided};
+ghost use Rattle.repair.specs.Regions.{allowedBy, shares, candidateAt, sum, divided};
+ghost use Rattle.repair.specs.Step.{regionsOf};
 
 // The smaller of two numbers.
 fn fewer(a: usize, b: usize) -> usize

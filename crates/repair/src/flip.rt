@@ -5,9 +5,9 @@ use crate::flip_end::finish_flip;
 use crate::flip_layout::flip_layout;
 use crate::flip_tries::try_edges;
 use crate::flip_tries::try_faces;
-use geometry::bounds::Options;
 use geometry::field::Field;
 use mesh::about::live_elements;
+use mesh::intake::Settings;
 use mesh::intake::Sizes;
 use mesh::intake::intake;
 use mesh::words::clear;
@@ -18,7 +18,7 @@ ghost use Prim.Native.Nat.{ℕ};
 ghost use lib.ListN.{length};
 ghost use Rattle.mesh.specs.Words.{zeroWords, zeroFloats};
 ghost use Rattle.repair.specs.declared.answer.Answer.{Answer};
-ghost use Rattle.repair.specs.Step.{State, Pass, numberOf, valuesOf, inNumbers, sizesAfter, step};
+ghost use Rattle.repair.specs.Step.{State, Pass, held, callOf, numberOf, valuesOf, inNumbers, sizesAfter, step};
 ghost use Rattle.repair.specs.FlipFitting.{FlipFitting, flipWhole};
 
 // The pass on a mesh that passed intake.
@@ -45,42 +45,38 @@ fn flip_all(
 
 // `flip` on whole buffers: intake, then the pass. Both work slices may hold anything before, and are all zeros afterwards.
 pub fn flip(
-    sizes: Sizes,
-    o: Options,
-    count: u32,
+    s: Settings,
     fields: [Field; 8],
-    parameters: &mut [f64],
-    points: &mut [f64],
-    masks: &mut [u32],
+    parameters: &[f64],
+    points: &[f64],
+    masks: &[u32],
     elements: &mut [u32],
     surface: &mut [u32],
     work: &mut [u32],
     floats: &mut [f64],
 ) -> Answer
     ensures { λ r. ⌜ _≡_ {A = ℕ × List ℕ × State}
-        (numberOf r, valuesOf r, record { parameters = now (parameters .exit); points = now (points .exit); masks = now (masks .exit); elements = now (elements .exit); surface = now (surface .exit); sizes = sizesAfter r sizes })
-        (inNumbers (step (record { pass = Pass.flip; options = o; fields = fields; count = count; regions = none; words = length (now (work .entry)); floats = length (now (floats .entry)) })
-        (record { parameters = now (parameters .entry); points = now (points .entry); masks = now (masks .entry); elements = now (elements .entry); surface = now (surface .entry); sizes = sizes }))) ⌝ }
+        (numberOf r, valuesOf r, held (sizesAfter r (s .sizes)) (now (parameters .entry)) (now (points .entry)) (now (masks .entry)) (now (elements .exit)) (now (surface .exit)))
+        (inNumbers (step (callOf Pass.flip s fields none (now (work .entry)) (now (floats .entry)))
+        (held (s .sizes) (now (parameters .entry)) (now (points .entry)) (now (masks .entry)) (now (elements .entry)) (now (surface .entry))))) ⌝ }
     ensures { λ _. ⌜ now (work .exit) ≡ zeroWords (length (now (work .entry))) ⌝ }
     ensures { λ _. ⌜ now (floats .exit) ≡ zeroFloats (length (now (floats .entry))) ⌝ }
 {
     let number = intake(
-        sizes,
-        o,
-        count,
+        s,
         fields,
         parameters,
         points,
-        masks,
+        masks.len(),
         elements,
-        surface,
+        surface.len(),
         work,
         floats,
     );
     if number != 0 {
         return Answer::Refused(number);
     }
-    let answer = flip_all(sizes, points, elements, surface, work);
+    let answer = flip_all(s.sizes, points, elements, surface, work);
     clear(work);
     answer
 }

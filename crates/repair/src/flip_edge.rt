@@ -21,7 +21,7 @@ ghost use lib.ListN.{length, take};
 ghost use Rattle.mesh.specs.Words.{pointsOf};
 ghost use Rattle.mesh.specs.Element.{tet, verticesOf};
 ghost use Rattle.mesh.specs.Link.{without};
-ghost use Rattle.repair.specs.Mesh.{measure};
+ghost use Rattle.mesh.specs.Measure.{measure};
 ghost use Rattle.repair.specs.Flip.{State, tryEdge};
 ghost use Rattle.repair.specs.Trio.{elementsOf};
 ghost use Rattle.repair.specs.FlipLayout.{EdgesBound};

@@ -19,7 +19,7 @@ ghost use Rattle.mesh.specs.Words.{pointsOf};
 ghost use Rattle.mesh.specs.Complex.{mem};
 ghost use Rattle.mesh.specs.Element.{tet, verticesOf, cornersOf};
 ghost use Rattle.mesh.specs.Link.{without};
-ghost use Rattle.repair.specs.Mesh.{measure};
+ghost use Rattle.mesh.specs.Measure.{measure};
 ghost use Rattle.repair.specs.Flip.{State, tryFace};
 ghost use Rattle.repair.specs.Trio.{elementsOf};
 ghost use Rattle.repair.specs.FlipLayout.{FacesBound};

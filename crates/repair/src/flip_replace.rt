@@ -14,7 +14,7 @@ ghost use lib.ListN.{length};
 ghost use Rattle.mesh.specs.Words.{pointsOf};
 ghost use Rattle.mesh.specs.Tests.{every};
 ghost use Rattle.mesh.specs.Intake.{wellNumbered};
-ghost use Rattle.repair.specs.Mesh.{measure};
+ghost use Rattle.mesh.specs.Measure.{measure};
 ghost use Rattle.repair.specs.Flip as def;
 ghost use Rattle.repair.specs.Trio.{elementsOf};
 ghost use Rattle.repair.specs.FlipLayout.{Kept};

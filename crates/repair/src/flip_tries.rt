@@ -16,7 +16,7 @@ ghost use Rattle.mesh.specs.declared.element.Tet.{Tet};
 ghost use Rattle.mesh.specs.Words.{pointsOf};
 ghost use Rattle.mesh.specs.Rows.{rows};
 ghost use Rattle.mesh.specs.Shared.{sharedRow};
-ghost use Rattle.repair.specs.Mesh.{measure};
+ghost use Rattle.mesh.specs.Measure.{measure};
 ghost use Rattle.repair.specs.Flip.{State, tryFaces, tryEdges};
 ghost use Rattle.repair.specs.FlipLayout.{Room, FacesBound, EdgesBound};
 ghost use Rattle.repair.specs.FlipTries.{Holds, Went, Start, FacesListed, EdgesListed, edgeRow, faceRowsAt, edgeRowsAt};

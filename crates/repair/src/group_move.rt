@@ -1,15 +1,16 @@
 // A group moved to a point: parameters and points of its vertices.
 use crate::candidate::kept_on;
+use crate::map::mapped;
 use crate::trial::Site;
 use geometry::bounds::Options;
 use geometry::point::Point;
-use mesh::list::vertex_point;
+use mesh::vertex::vertex_point;
 use mesh::words::put_float;
 use mesh::words::word;
 ghost use Prim.Native.Nat.{_+_, _*_, _≤_, _<_};
 ghost use lib.ListN.{length};
 ghost use Rattle.mesh.specs.Complex.{Nodup};
-ghost use Rattle.repair.specs.Site.{Put, Placed, newPoint, InRange, members};
+ghost use Rattle.repair.specs.Site.{Put, Placed, newParameters, newPoint, InRange, members};
 
 // Writes the point of the vertex v of nv; nothing past the last.
 fn put_point(points: &mut [f64], nv: usize, v: u32, p: Point)
@@ -25,15 +26,16 @@ fn put_point(points: &mut [f64], nv: usize, v: u32, p: Point)
     put_float(points, 3 * i + 2, p.z);
 }
 
-// Moves the vertex v to p, but that a periodic coordinate on hi stays there.
+// Moves the vertex v to p, but that a periodic coordinate on hi stays there: its parameters, and its point by the map.
 fn move_vertex(o: Options, parameters: &mut [f64], points: &mut [f64], nv: usize, v: u32, p: Point)
     requires { ⌜ (nv ≤ 4096) × (3 * nv ≤ length (now parameters)) × (3 * nv ≤ length (now points)) ⌝ }
-    ensures { λ _. ⌜ Put nv v (newPoint o nv (now (parameters .entry)) p v) (now (parameters .entry)) (now (parameters .exit)) ⌝ }
+    ensures { λ _. ⌜ Put nv v (newParameters o nv (now (parameters .entry)) p v) (now (parameters .entry)) (now (parameters .exit)) ⌝ }
     ensures { λ _. ⌜ Put nv v (newPoint o nv (now (parameters .entry)) p v) (now (points .entry)) (now (points .exit)) ⌝ }
 {
     let q = kept_on(o, vertex_point(parameters, nv, v), p);
+    let r = mapped(q);
     put_point(parameters, nv, v, q);
-    put_point(points, nv, v, q);
+    put_point(points, nv, v, r);
 }
 
 // Moves every vertex of the group, the last first.
@@ -47,7 +49,7 @@ pub(crate) fn move_group(
 )
     requires { ⌜ (s .vertices ≤ 4096) × (3 * s .vertices ≤ length (now parameters)) × (3 * s .vertices ≤ length (now points)) ⌝ }
     requires { ⌜ InRange s × Nodup (members (now work) (s .group) (s .count)) ⌝ }
-    ensures { λ _. ⌜ Placed (s .vertices) (newPoint o (s .vertices) (now (parameters .entry)) p) (members (now (work .entry)) (s .group) (s .count)) (now (parameters .entry)) (now (parameters .exit)) ⌝ }
+    ensures { λ _. ⌜ Placed (s .vertices) (newParameters o (s .vertices) (now (parameters .entry)) p) (members (now (work .entry)) (s .group) (s .count)) (now (parameters .entry)) (now (parameters .exit)) ⌝ }
     ensures { λ _. ⌜ Placed (s .vertices) (newPoint o (s .vertices) (now (parameters .entry)) p) (members (now (work .entry)) (s .group) (s .count)) (now (points .entry)) (now (points .exit)) ⌝ }
 {
     let mut k = s.count;

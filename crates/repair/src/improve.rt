@@ -9,6 +9,7 @@ use geometry::bounds::Options;
 use geometry::bounds::spacing;
 use geometry::field::Field;
 use mesh::about::live_elements;
+use mesh::intake::Settings;
 use mesh::intake::Sizes;
 use mesh::intake::intake;
 use mesh::star::Index;
@@ -20,11 +21,12 @@ ghost use mathlib.Core.Option.{none};
 ghost use Prim.Native.Nat.{ℕ, _+_, _*_, _≤_};
 ghost use lib.ListN.{length};
 ghost use Rattle.mesh.specs.Words.{zeroWords, zeroFloats};
+ghost use Rattle.mesh.specs.Measure.{measure};
 ghost use Rattle.repair.specs.declared.answer.Answer.{Answer};
-ghost use Rattle.repair.specs.Mesh.{Mesh, measure};
+ghost use Rattle.repair.specs.Mesh.{Mesh};
 ghost use Rattle.repair.specs.Improve as def;
 ghost use Rattle.repair.specs.Layout.{Stands, Reads, Ready};
-ghost use Rattle.repair.specs.Step.{State, Pass, numberOf, valuesOf, inNumbers, sizesAfter, finish, meshOf, step};
+ghost use Rattle.repair.specs.Step.{State, Pass, held, callOf, numberOf, valuesOf, inNumbers, sizesAfter, finish, meshOf, step};
 ghost use Rattle.repair.specs.Fitting.{Fitting};
 
 // At most o.passes rounds, ended by one that collapses nothing. Gives how many vertices were replaced.
@@ -69,11 +71,11 @@ fn improve_all(
     work: &mut [u32],
     floats: &mut [f64],
 ) -> Answer
-    requires { ⌜ Fitting o (record { parameters = now parameters; points = now points; masks = now masks; elements = now elements; surface = now surface; sizes = sizes }) (now work) (length (now floats)) ⌝ }
+    requires { ⌜ Fitting o (held sizes (now parameters) (now points) (now masks) (now elements) (now surface)) (now work) (length (now floats)) ⌝ }
     ensures { λ r. ⌜ _≡_ {A = Answer × State}
-        (r, record { parameters = now (parameters .exit); points = now (points .exit); masks = now (masks .exit); elements = now (elements .exit); surface = now (surface .exit); sizes = sizesAfter r sizes })
-        (finish (record { parameters = now (parameters .entry); points = now (points .entry); masks = now (masks .entry); elements = now (elements .entry); surface = now (surface .entry); sizes = sizes })
-        (def.improve o (meshOf (record { parameters = now (parameters .entry); points = now (points .entry); masks = now (masks .entry); elements = now (elements .entry); surface = now (surface .entry); sizes = sizes })))) ⌝ }
+        (r, held (sizesAfter r sizes) (now (parameters .exit)) (now (points .exit)) (now (masks .exit)) (now (elements .exit)) (now (surface .exit)))
+        (finish (held sizes (now (parameters .entry)) (now (points .entry)) (now (masks .entry)) (now (elements .entry)) (now (surface .entry)))
+        (def.improve o (meshOf (held sizes (now (parameters .entry)) (now (points .entry)) (now (masks .entry)) (now (elements .entry)) (now (surface .entry)))))) ⌝ }
 {
     let n = sizes.elements as u32;
     let x = layout(sizes.vertices as u32, n);
@@ -97,9 +99,7 @@ fn improve_all(
 
 // `improve` on whole buffers: intake, then the pass. Both work slices may hold anything before, and are all zeros afterwards.
 pub fn improve(
-    sizes: Sizes,
-    o: Options,
-    count: u32,
+    s: Settings,
     fields: [Field; 8],
     parameters: &mut [f64],
     points: &mut [f64],
@@ -110,22 +110,20 @@ pub fn improve(
     floats: &mut [f64],
 ) -> Answer
     ensures { λ r. ⌜ _≡_ {A = ℕ × List ℕ × State}
-        (numberOf r, valuesOf r, record { parameters = now (parameters .exit); points = now (points .exit); masks = now (masks .exit); elements = now (elements .exit); surface = now (surface .exit); sizes = sizesAfter r sizes })
-        (inNumbers (step (record { pass = Pass.improve; options = o; fields = fields; count = count; regions = none; words = length (now (work .entry)); floats = length (now (floats .entry)) })
-        (record { parameters = now (parameters .entry); points = now (points .entry); masks = now (masks .entry); elements = now (elements .entry); surface = now (surface .entry); sizes = sizes }))) ⌝ }
+        (numberOf r, valuesOf r, held (sizesAfter r (s .sizes)) (now (parameters .exit)) (now (points .exit)) (now (masks .exit)) (now (elements .exit)) (now (surface .exit)))
+        (inNumbers (step (callOf Pass.improve s fields none (now (work .entry)) (now (floats .entry)))
+        (held (s .sizes) (now (parameters .entry)) (now (points .entry)) (now (masks .entry)) (now (elements .entry)) (now (surface .entry))))) ⌝ }
     ensures { λ _. ⌜ now (work .exit) ≡ zeroWords (length (now (work .entry))) ⌝ }
     ensures { λ _. ⌜ now (floats .exit) ≡ zeroFloats (length (now (floats .entry))) ⌝ }
 {
     let number = intake(
-        sizes,
-        o,
-        count,
+        s,
         fields,
         parameters,
         points,
-        masks,
+        masks.len(),
         elements,
-        surface,
+        surface.len(),
         work,
         floats,
     );
@@ -133,8 +131,8 @@ pub fn improve(
         return Answer::Refused(number);
     }
     let answer = improve_all(
-        sizes,
-        o,
+        s.sizes,
+        s.options,
         parameters,
         points,
         masks,

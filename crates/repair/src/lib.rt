@@ -20,6 +20,7 @@ mod group_move;
 pub mod improve;
 mod layout;
 mod locked;
+mod map;
 mod matrix;
 mod members;
 mod orient;

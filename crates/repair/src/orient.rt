@@ -1,17 +1,18 @@
 // The elements that a flip replaces and those that it makes, two or three by value: oriented, measured and compared.
 use crate::tally::Tally;
 use crate::tally::counted;
-use crate::tally::score_of;
 use crate::tally::start;
 use geometry::float::absolute;
-use geometry::point::determinant;
 use mesh::element::Tet;
-use mesh::list::vertex_point;
+use mesh::measure::determinant_of;
+use mesh::measure::is_above;
+use mesh::measure::is_below;
+use mesh::measure::score_of;
 ghost use mathlib.Core.Path.{_≡_};
 ghost use mathlib.Core.List.{map};
 ghost use Rattle.mesh.specs.Words.{pointsOf};
 ghost use Rattle.mesh.specs.Tests.{every};
-ghost use Rattle.repair.specs.Mesh.{measure, determinantOf, volumeOf};
+ghost use Rattle.mesh.specs.Measure.{measure, volumeOf};
 ghost use Rattle.repair.specs.Flip.{oriented, accepted};
 ghost use Rattle.repair.specs.Tally.{started, tallied};
 ghost use Rattle.repair.specs.Trio.{elementsOf};
@@ -24,23 +25,11 @@ pub struct Trio {
     pub c: Tet,
 }
 
-// The determinant of an element.
-fn determinant_of(points: &[f64], nv: usize, t: Tet) -> f64
-    ensures { λ r. ⌜ r ≡ determinantOf (pointsOf nv (now (points .entry))) t ⌝ }
-{
-    let a = vertex_point(points, nv, t.a);
-    let b = vertex_point(points, nv, t.b);
-    let c = vertex_point(points, nv, t.c);
-    let d = vertex_point(points, nv, t.d);
-    determinant(a, b, c, d)
-}
-
 // The element with positions 2 and 3 exchanged where its determinant is below 0.
 fn orient_one(points: &[f64], nv: usize, t: Tet) -> Tet
     ensures { λ r. ⌜ r ≡ oriented (measure (pointsOf nv (now (points .entry)))) t ⌝ }
 {
-    let d = determinant_of(points, nv, t);
-    if d < 0.0 {
+    if is_below(points, nv, t) {
         return Tet {
             a: t.a,
             b: t.b,
@@ -73,16 +62,16 @@ fn all_above(points: &[f64], nv: usize, u: Trio) -> bool
     let a = u.a;
     let b = u.b;
     let c = u.c;
-    if !(0.0 < determinant_of(points, nv, a)) {
+    if !is_above(points, nv, a) {
         return false;
     }
-    if !(0.0 < determinant_of(points, nv, b)) {
+    if !is_above(points, nv, b) {
         return false;
     }
     if u.count != 3 {
         return true;
     }
-    0.0 < determinant_of(points, nv, c)
+    is_above(points, nv, c)
 }
 
 // The lowest score, and how many are bad.

@@ -4,8 +4,6 @@ use crate::answer::Answer;
 use crate::best::Best;
 use crate::best::Start;
 use crate::best::best_candidate;
-use crate::candidate::active_count;
-use crate::candidate::active_fields;
 use crate::candidate::mean_of;
 use crate::group_move::move_group;
 use crate::layout::layout;
@@ -17,13 +15,14 @@ use geometry::field::Field;
 use geometry::point::Point;
 use mesh::about::star_about;
 use mesh::group::group_in;
+use mesh::intake::Settings;
 use mesh::intake::Sizes;
 use mesh::intake::intake;
-use mesh::list::vertex_point;
 use mesh::rows::run_length;
 use mesh::star::Index;
 use mesh::star::build;
 use mesh::star::neighbours;
+use mesh::vertex::vertex_point;
 use mesh::words::clear;
 use mesh::words::copy_into;
 use mesh::words::word;
@@ -37,11 +36,16 @@ ghost use Rattle.mesh.specs.Tests.{every};
 ghost use Rattle.mesh.specs.Element.{tets};
 ghost use Rattle.mesh.specs.Group.{groups};
 ghost use Rattle.mesh.specs.Intake.{wellNumbered};
-ghost use Rattle.repair.specs.Mesh.{measure, lowestOf};
+ghost use Rattle.mesh.specs.Measure.{measure, lowestOf};
 ghost use Rattle.repair.specs.Smooth.{mean, bestFor, smoothGroup, smoothGroups};
-ghost use Rattle.repair.specs.Regions.{regionsOf};
 ghost use Rattle.repair.specs.Site.{members, about, stateOf, bestIn, Turned, SameTo, Ready, Slots, Rows, Listed, Sited, Started, usedWords, meshRead, meshFor, Grouped};
-ghost use Rattle.repair.specs.Step.{State, Pass, numberOf, valuesOf, inNumbers, step};
+ghost use Rattle.repair.specs.Step.{State, Pass, held, callOf, regionsOf, numberOf, valuesOf, inNumbers, step};
+
+// The rows of a group, among the sorted ones: the first of them, and how many.
+struct Run {
+    first: usize,
+    size: usize,
+}
 
 // Lists the elements about the group whose first vertex stands at `group`, and gives where all of it stands.
 fn list_about(work: &mut [u32], x: Index, group: usize, count: usize) -> Site
@@ -93,10 +97,9 @@ fn start_from(o: Options, parameters: &[f64], work: &mut [u32], x: Index, v: u32
     }
 }
 
-// The best candidate of the group of s, whose lowest score is `lowest`.
+// The best candidate of the group of `site`, whose lowest score is `lowest`.
 fn best_for(
-    o: Options,
-    count: usize,
+    s: Settings,
     fields: [Field; 8],
     listed: bool,
     regions: &[u32],
@@ -106,23 +109,20 @@ fn best_for(
     elements: &[u32],
     work: &mut [u32],
     x: Index,
-    s: Site,
+    site: Site,
     lowest: f64,
 ) -> Best
-    requires { ⌜ Ready x (now work) × Slots x (now elements) (now work) × Sited x (now elements) (now work) s ⌝ }
-    requires { ⌜ lowest ≡ lowestOf (measure (pointsOf (s .vertices) (now points))) (about (now elements) (now work) (s .area) (s .about)) ⌝ }
-    ensures { λ r. ⌜ bestIn r ≡ bestFor o (take count fields) (regionsOf listed (now (regions .entry))) (meshFor x (now (masks .entry)) (now (elements .entry)))
-        (stateOf (x .vertices) (now (parameters .entry)) (now (points .entry)) 0) (wordAt (now (work .entry)) (s .group)) (members (now (work .entry)) (s .group) (s .count)) ⌝ }
+    requires { ⌜ Ready x (now work) × Slots x (now elements) (now work) × Sited x (now elements) (now work) site ⌝ }
+    requires { ⌜ lowest ≡ lowestOf (measure (pointsOf (site .vertices) (now points))) (about (now elements) (now work) (site .area) (site .about)) ⌝ }
+    ensures { λ r. ⌜ bestIn r ≡ bestFor (s .options) (take (s .count) fields) (regionsOf listed (now (regions .entry))) (meshFor x (now (masks .entry)) (now (elements .entry)))
+        (stateOf (x .vertices) (now (parameters .entry)) (now (points .entry)) 0) (wordAt (now (work .entry)) (site .group)) (members (now (work .entry)) (site .group) (site .count)) ⌝ }
     ensures { λ _. ⌜ SameTo (x .area) (now (work .entry)) (now (work .exit)) ⌝ }
 {
-    let v = word(work, s.group);
+    let v = word(work, site.group);
     let mask = word(masks, v as usize);
-    let active = active_fields(mask, fields, count);
-    let m = active_count(mask, fields, count);
-    let start = start_from(o, parameters, work, x, v, s.about);
+    let start = start_from(s.options, parameters, work, x, v, site.about);
     best_candidate(
-        o,
-        count,
+        s,
         fields,
         listed,
         regions,
@@ -130,19 +130,17 @@ fn best_for(
         points,
         elements,
         work,
-        s,
+        site,
         start,
-        active,
-        m,
+        mask,
         lowest,
     )
 }
 
-// Moves the group of `size` rows from `first` on where its lowest score is below 0.15 and a candidate is better, and gives how many
-// vertices have moved, `moved` so far.
+// Moves the group of `run` where its lowest score is below 0.15 and a candidate is better, and gives how many vertices have moved, `moved`
+// so far.
 fn smooth_group(
-    o: Options,
-    count: usize,
+    s: Settings,
     fields: [Field; 8],
     listed: bool,
     regions: &[u32],
@@ -152,26 +150,25 @@ fn smooth_group(
     elements: &[u32],
     work: &mut [u32],
     x: Index,
-    first: usize,
-    size: usize,
+    run: Run,
     moved: usize,
 ) -> usize
-    requires { ⌜ Ready x (now work) × Rows x (now work) (7 * first + 6) size × Slots x (now elements) (now work) ⌝ }
-    requires { ⌜ (moved ≤ first) × (3 * x .vertices ≤ length (now parameters)) × (3 * x .vertices ≤ length (now points)) ⌝ }
-    ensures { λ r. ⌜ Turned (x .vertices) (smoothGroup o (take count fields) (regionsOf listed (now (regions .entry))) (meshFor x (now (masks .entry)) (now (elements .entry)))
-        (stateOf (x .vertices) (now (parameters .entry)) (now (points .entry)) moved) (members (now (work .entry)) (7 * first + 6) size))
+    requires { ⌜ Ready x (now work) × Rows x (now work) (7 * run .first + 6) (run .size) × Slots x (now elements) (now work) ⌝ }
+    requires { ⌜ (moved ≤ run .first) × (3 * x .vertices ≤ length (now parameters)) × (3 * x .vertices ≤ length (now points)) ⌝ }
+    ensures { λ r. ⌜ Turned (x .vertices) (smoothGroup (s .options) (take (s .count) fields) (regionsOf listed (now (regions .entry))) (meshFor x (now (masks .entry)) (now (elements .entry)))
+        (stateOf (x .vertices) (now (parameters .entry)) (now (points .entry)) moved) (members (now (work .entry)) (7 * run .first + 6) (run .size)))
         (now (parameters .entry)) (now (points .entry)) (now (parameters .exit)) (now (points .exit)) r ⌝ }
-    ensures { λ r. ⌜ SameTo (x .area) (now (work .entry)) (now (work .exit)) × (r ≤ moved + size) ⌝ }
+    ensures { λ r. ⌜ SameTo (x .area) (now (work .entry)) (now (work .exit)) × (r ≤ moved + run .size) ⌝ }
 {
-    let group = 7 * first + 6;
-    let s = list_about(work, x, group, size);
-    let lowest = lowest_about(points, elements, work, s);
+    let size = run.size;
+    let group = 7 * run.first + 6;
+    let site = list_about(work, x, group, size);
+    let lowest = lowest_about(points, elements, work, site);
     if !(lowest < 0.15) {
         return moved;
     }
     let best = best_for(
-        o,
-        count,
+        s,
         fields,
         listed,
         regions,
@@ -181,21 +178,20 @@ fn smooth_group(
         elements,
         work,
         x,
-        s,
+        site,
         lowest,
     );
     if !best.found {
         return moved;
     }
     let p = best.point;
-    move_group(o, parameters, points, work, s, p);
+    move_group(s.options, parameters, points, work, site, p);
     moved + size
 }
 
 // Smooths every group in rank order, and gives how many vertices have moved.
 fn smooth_groups(
-    o: Options,
-    count: usize,
+    s: Settings,
     fields: [Field; 8],
     listed: bool,
     regions: &[u32],
@@ -206,10 +202,10 @@ fn smooth_groups(
     work: &mut [u32],
     x: Index,
 ) -> usize
-    requires { ⌜ Ready x (now work) × Slots x (now elements) (now work) × Grouped o x (now parameters) (now work) ⌝ }
+    requires { ⌜ Ready x (now work) × Slots x (now elements) (now work) × Grouped (s .options) x (now parameters) (now work) ⌝ }
     requires { ⌜ (3 * x .vertices ≤ length (now parameters)) × (3 * x .vertices ≤ length (now points)) ⌝ }
-    ensures { λ r. ⌜ Turned (x .vertices) (smoothGroups o (take count fields) (regionsOf listed (now (regions .entry))) (meshFor x (now (masks .entry)) (now (elements .entry)))
-        (stateOf (x .vertices) (now (parameters .entry)) (now (points .entry)) 0) (groups o (pointsOf (x .vertices) (now (parameters .entry)))))
+    ensures { λ r. ⌜ Turned (x .vertices) (smoothGroups (s .options) (take (s .count) fields) (regionsOf listed (now (regions .entry))) (meshFor x (now (masks .entry)) (now (elements .entry)))
+        (stateOf (x .vertices) (now (parameters .entry)) (now (points .entry)) 0) (groups (s .options) (pointsOf (x .vertices) (now (parameters .entry)))))
         (now (parameters .entry)) (now (points .entry)) (now (parameters .exit)) (now (points .exit)) r ⌝ }
 {
     let nv = x.vertices as usize;
@@ -217,9 +213,12 @@ fn smooth_groups(
     let mut moved = 0;
     while first < nv {
         let size = run_length(work, first, nv, 7, 6);
+        let run = Run {
+            first: first,
+            size: size,
+        };
         moved = smooth_group(
-            o,
-            count,
+            s,
             fields,
             listed,
             regions,
@@ -229,8 +228,7 @@ fn smooth_groups(
             elements,
             work,
             x,
-            first,
-            size,
+            run,
             moved,
         );
         first += size;
@@ -269,9 +267,7 @@ fn used_words(sizes: Sizes) -> usize
 
 // Smooths every group, in the words that are used, and gives how many vertices have moved. The words are all zeros afterwards.
 fn smooth_in(
-    o: Options,
-    sizes: Sizes,
-    count: usize,
+    s: Settings,
     fields: [Field; 8],
     listed: bool,
     regions: &[u32],
@@ -281,18 +277,17 @@ fn smooth_in(
     elements: &[u32],
     work: &mut [u32],
 ) -> usize
-    requires { ⌜ (sizes .vertices ≤ 4096) × (sizes .elements ≤ 16384) × (usedWords (sizes .vertices) (sizes .elements) ≤ length (now work)) ⌝ }
-    requires { ⌜ (4 * sizes .elements ≤ length (now elements)) × (every (wellNumbered (sizes .vertices)) (tets (sizes .elements) (now elements)) ≡ true) ⌝ }
-    requires { ⌜ (3 * sizes .vertices ≤ length (now parameters)) × (3 * sizes .vertices ≤ length (now points)) ⌝ }
-    ensures { λ r. ⌜ Turned (sizes .vertices) (smoothGroups o (take count fields) (regionsOf listed (now (regions .entry))) (meshRead (sizes .vertices) (sizes .elements) (now (masks .entry)) (now (elements .entry)))
-        (stateOf (sizes .vertices) (now (parameters .entry)) (now (points .entry)) 0) (groups o (pointsOf (sizes .vertices) (now (parameters .entry)))))
+    requires { ⌜ (s .sizes .vertices ≤ 4096) × (s .sizes .elements ≤ 16384) × (usedWords (s .sizes .vertices) (s .sizes .elements) ≤ length (now work)) ⌝ }
+    requires { ⌜ (4 * s .sizes .elements ≤ length (now elements)) × (every (wellNumbered (s .sizes .vertices)) (tets (s .sizes .elements) (now elements)) ≡ true) ⌝ }
+    requires { ⌜ (3 * s .sizes .vertices ≤ length (now parameters)) × (3 * s .sizes .vertices ≤ length (now points)) ⌝ }
+    ensures { λ r. ⌜ Turned (s .sizes .vertices) (smoothGroups (s .options) (take (s .count) fields) (regionsOf listed (now (regions .entry))) (meshRead (s .sizes .vertices) (s .sizes .elements) (now (masks .entry)) (now (elements .entry)))
+        (stateOf (s .sizes .vertices) (now (parameters .entry)) (now (points .entry)) 0) (groups (s .options) (pointsOf (s .sizes .vertices) (now (parameters .entry)))))
         (now (parameters .entry)) (now (points .entry)) (now (parameters .exit)) (now (points .exit)) r ⌝ }
     ensures { λ _. ⌜ now (work .exit) ≡ zeroWords (length (now (work .entry))) ⌝ }
 {
-    let x = prepare(o, sizes, parameters, elements, work);
+    let x = prepare(s.options, s.sizes, parameters, elements, work);
     let moved = smooth_groups(
-        o,
-        count,
+        s,
         fields,
         listed,
         regions,
@@ -310,9 +305,7 @@ fn smooth_in(
 // Moves vertices of badly shaped elements; the count is that of the vertices moved. Both work slices may hold anything before, and are all
 // zeros afterwards.
 pub fn smooth(
-    sizes: Sizes,
-    o: Options,
-    count: u32,
+    s: Settings,
     fields: [Field; 8],
     listed: bool,
     regions: &[u32],
@@ -324,33 +317,31 @@ pub fn smooth(
     work: &mut [u32],
     floats: &mut [f64],
 ) -> Answer
-    ensures { λ r. ⌜ _≡_ {A = ℕ × List ℕ × State} (numberOf r, valuesOf r, record { parameters = now (parameters .exit); points = now (points .exit); masks = now (masks .entry); elements = now (elements .entry); surface = now (surface .entry); sizes = sizes })
-        (inNumbers (step (record { pass = Pass.smooth; options = o; fields = fields; count = count; regions = regionsOf listed (now (regions .entry)); words = length (now (work .entry)); floats = length (now (floats .entry)) })
-        (record { parameters = now (parameters .entry); points = now (points .entry); masks = now (masks .entry); elements = now (elements .entry); surface = now (surface .entry); sizes = sizes }))) ⌝ }
+    ensures { λ r. ⌜ _≡_ {A = ℕ × List ℕ × State}
+        (numberOf r, valuesOf r, held (s .sizes) (now (parameters .exit)) (now (points .exit)) (now (masks .entry)) (now (elements .entry)) (now (surface .entry)))
+        (inNumbers (step (callOf Pass.smooth s fields (regionsOf listed (now (regions .entry))) (now (work .entry)) (now (floats .entry)))
+        (held (s .sizes) (now (parameters .entry)) (now (points .entry)) (now (masks .entry)) (now (elements .entry)) (now (surface .entry))))) ⌝ }
     ensures { λ _. ⌜ now (work .exit) ≡ zeroWords (length (now (work .entry))) ⌝ }
     ensures { λ _. ⌜ now (floats .exit) ≡ zeroFloats (length (now (floats .entry))) ⌝ }
 {
     let number = intake(
-        sizes,
-        o,
-        count,
+        s,
         fields,
         parameters,
         points,
-        masks,
+        masks.len(),
         elements,
-        surface,
+        surface.len(),
         work,
         floats,
     );
     if number != 0 {
         return Answer::Refused(number);
     }
+    let sizes = s.sizes;
     let e = used_words(sizes);
     let moved = smooth_in(
-        o,
-        sizes,
-        count as usize,
+        s,
         fields,
         listed,
         regions,

@@ -1,10 +1,9 @@
 // Elements measured one after the other: the lowest score, and how many are bad.
 use geometry::float::smaller;
-use geometry::point::determinant;
 use geometry::score::is_bad;
-use geometry::score::score;
 use mesh::element::Tet;
-use mesh::list::vertex_point;
+use mesh::measure::measured_of;
+use mesh::measure::score_of;
 use mesh::words::word;
 ghost use mathlib.Core.Path.{_≡_};
 ghost use Prim.Native.Nat.{_+_, _*_, _≤_};
@@ -12,7 +11,7 @@ ghost use lib.ListN.{length, drop};
 ghost use Rattle.mesh.specs.Words.{wordAt, pointsOf};
 ghost use Rattle.mesh.specs.Tests.{nodup};
 ghost use Rattle.mesh.specs.Element.{tet, tets, verticesOf};
-ghost use Rattle.repair.specs.Mesh.{measure, scoreOf};
+ghost use Rattle.mesh.specs.Measure.{measure};
 ghost use Rattle.repair.specs.Tally.{counted, refusedOf, judged, started, tallied};
 
 // The lowest score so far, how many elements are bad, and whether all were allowed.
@@ -106,17 +105,6 @@ fn four_different(t: Tet) -> bool
     t.c != t.d
 }
 
-// The score of an element.
-pub(crate) fn score_of(points: &[f64], nv: usize, t: Tet) -> f64
-    ensures { λ r. ⌜ r ≡ scoreOf (pointsOf nv (now (points .entry))) t ⌝ }
-{
-    let a = vertex_point(points, nv, t.a);
-    let b = vertex_point(points, nv, t.b);
-    let c = vertex_point(points, nv, t.c);
-    let d = vertex_point(points, nv, t.d);
-    score(a, b, c, d)
-}
-
 // The element t, passed over where two of its vertices are the same; allowed with determinant above 0 and a score no more than 1e-12
 // below the limit.
 pub(crate) fn judge(r: Tally, points: &[f64], nv: usize, limit: f64, t: Tet) -> Tally
@@ -126,18 +114,14 @@ pub(crate) fn judge(r: Tally, points: &[f64], nv: usize, limit: f64, t: Tet) -> 
     if !four_different(t) {
         return r;
     }
-    let a = vertex_point(points, nv, t.a);
-    let b = vertex_point(points, nv, t.b);
-    let c = vertex_point(points, nv, t.c);
-    let d = vertex_point(points, nv, t.d);
-    if !(0.0 < determinant(a, b, c, d)) {
+    let m = measured_of(points, nv, t);
+    if !m.above {
         return refused(r);
     }
-    let s = score(a, b, c, d);
-    if s + 1e-12 < limit {
+    if m.score + 1e-12 < limit {
         return refused(r);
     }
-    counted(r, s)
+    counted(r, m.score)
 }
 
 // The elements that stand at p, n of them, four words each.

@@ -1,23 +1,24 @@
 // The elements about a group, measured from the points as they are and as they would be with the group moved.
 use crate::candidate::kept_on;
+use crate::map::mapped;
 use crate::members::is_member;
-use crate::tally::score_of;
 use geometry::bounds::Options;
 use geometry::float::smaller;
 use geometry::point::Point;
-use geometry::point::determinant;
-use geometry::score::score;
 use mesh::element::Tet;
-use mesh::list::vertex_point;
+use mesh::measure::Measured;
+use mesh::measure::measured_at;
+use mesh::measure::score_of;
 use mesh::vertex::tet_at;
+use mesh::vertex::vertex_point;
 use mesh::words::word;
 ghost use mathlib.Core.Path.{_≡_};
 ghost use mathlib.Core.Bool.{true, _&&_};
 ghost use lib.Ieee.{lt};
 ghost use Rattle.mesh.specs.Words.{pointAt, pointsOf};
 ghost use Rattle.mesh.specs.Tests.{every};
-ghost use Rattle.repair.specs.Mesh.{measure, lowestOf};
-ghost use Rattle.repair.specs.Site.{InRange, about, trialPoints, measuredOf};
+ghost use Rattle.mesh.specs.Measure.{measure, lowestOf, measuredOf};
+ghost use Rattle.repair.specs.Site.{InRange, about, trialPoints};
 
 // Where the group and the elements about it stand in the work: the rows of the group, its first vertex at `group`, and at `area` the
 // numbers of `about` elements.
@@ -27,12 +28,6 @@ pub struct Site {
     pub count: usize,
     pub area: usize,
     pub about: usize,
-}
-
-// Whether the determinant of an element is above 0, and its score.
-pub struct Measured {
-    pub above: bool,
-    pub score: f64,
 }
 
 // Whether every determinant is above 0 and the lowest score above a given bar, and then the lowest score.
@@ -78,7 +73,7 @@ fn trial_point(
     if !is_member(work, s.group, s.count, v) {
         return q;
     }
-    kept_on(o, vertex_point(parameters, s.vertices, v), p)
+    mapped(kept_on(o, vertex_point(parameters, s.vertices, v), p))
 }
 
 // An element measured with the group moved to p.
@@ -98,10 +93,7 @@ fn measure_element(
     let b = trial_point(o, parameters, points, work, s, p, t.b);
     let c = trial_point(o, parameters, points, work, s, p, t.c);
     let d = trial_point(o, parameters, points, work, s, p, t.d);
-    Measured {
-        above: 0.0 < determinant(a, b, c, d),
-        score: score(a, b, c, d),
-    }
+    measured_at(a, b, c, d)
 }
 
 // The elements about the group with it moved to p. It stops at a determinant that is not above 0, and where the lowest score so far is not above `bar`.

@@ -13,6 +13,7 @@ use geometry::bounds::Cells;
 use geometry::bounds::Options;
 use geometry::field::Field;
 use geometry::point::Point;
+use mesh::intake::Settings;
 use mesh::intake::Sizes;
 use repair::answer::Answer;
 use repair::flip::flip;
@@ -143,9 +144,8 @@ pub(crate) const PASSES: u64 = 3;
 // What a call gives on these slices.
 fn run(
     k: Call,
-    o: Options,
+    s: Settings,
     f: [Field; 8],
-    z: Sizes,
     regions: &[u32],
     parameters: &mut [f64],
     points: &mut [f64],
@@ -158,9 +158,7 @@ fn run(
     let pass = k.pass;
     match pass {
         0 => improve(
-            z,
-            o,
-            k.count,
+            s,
             f,
             parameters,
             points,
@@ -171,9 +169,7 @@ fn run(
             floats,
         ),
         1 => smooth(
-            z,
-            o,
-            k.count,
+            s,
             f,
             k.listed,
             regions,
@@ -186,9 +182,7 @@ fn run(
             floats,
         ),
         _ => flip(
-            z,
-            o,
-            k.count,
+            s,
             f,
             parameters,
             points,
@@ -212,9 +206,8 @@ fn region_count(text: &[u8], k: Call) -> usize {
 // The same with the fronts of these slices as work and regions.
 fn run_on(
     k: Call,
-    o: Options,
+    s: Settings,
     f: [Field; 8],
-    z: Sizes,
     regions: &[u32],
     n: usize,
     parameters: &mut [f64],
@@ -230,9 +223,8 @@ fn run_on(
     let g = fit_floats(k.floats, floats);
     run(
         k,
-        o,
+        s,
         f,
-        z,
         &regions[..r],
         parameters,
         points,
@@ -287,14 +279,13 @@ pub(crate) fn both(a: bool, b: bool) -> bool {
     if a { b } else { false }
 }
 
-// Whether the call k with this box, these fields and n of these regions gives the stored answer and leaves zeros in both work slices, which hold other
+// Whether the call k with these settings, these fields and n of these regions gives the stored answer and leaves zeros in both work slices, which hold other
 // things before.
 fn runs(
     text: &[u8],
     k: Call,
-    o: Options,
+    s: Settings,
     f: [Field; 8],
-    z: Sizes,
     regions: &[u32],
     n: usize,
     parameters: &mut [f64],
@@ -307,9 +298,8 @@ fn runs(
     let mut floats = [7.0; 320];
     let given = run_on(
         k,
-        o,
+        s,
         f,
-        z,
         regions,
         n,
         parameters,
@@ -338,12 +328,16 @@ pub(crate) fn answered(
 ) -> bool {
     let mut regions = [0u32; 8];
     load_words(text, ahead(text, k.regions, 1), 16, &mut regions);
+    let s = Settings {
+        sizes: z,
+        options: options(text, at),
+        count: k.count,
+    };
     runs(
         text,
         k,
-        options(text, at),
+        s,
         fields(text, k),
-        z,
         &regions,
         region_count(text, k),
         parameters,

@@ -1,5 +1,5 @@
 -- Block files (document 01, "Block", and the rows 1, 2, 3 and 10 of "Where each number is given"), as a definition `reading` of all bytes:
--- a number, or the plot. The file is one list of words, 128 a block. Definitions only.
+-- a number, or the plot. The file is one list of words, block after block. Definitions only.
 use Prim.Native.Nat.{ℕ, zero, suc, _+_, _-_, _*_, _/_, _%_, _^_, min}
 use mathlib.Core.Bool.{Bool, not, cond, _&&_, _||_}
 use mathlib.Core.List.{List, [], _∷_}
@@ -12,21 +12,23 @@ use Rattle.geometry.specs.declared.field.Field.the-variants.{Level, Plane, Ball
 use Rattle.geometry.specs.Float.{zero64}
 use Rattle.mesh.specs.Group.{numbers}
 use Rattle.mesh.specs.Tests.{every}
+use Rattle.report.specs.Format.{wordsABlock, bytesABlock, headerKind, vertexKind, elementKind, firstRecord, vertexSize, verticesABlock, elementSize, elementsABlock, verticesPlace, elementsPlace, boundsPlace, cellsPlace, periodicPlace, passesPlace, countPlace, firstField, fieldPlaces, fieldSize, levelKind, planeKind, ballKind, mostVertices, mostElements}
 use Rattle.report.specs.Bytes.{wordIn, floatIn, pointFrom, sumOf, listed, firstOf}
 
 -- ---- a block
 
 -- "file ends before its last block is whole": the bytes of the block k are not all there
 abbrev pub notWhole : List ℕ → ℕ → Bool
-notWhole s k = ltb (length s) (512 * (k + 1))
+notWhole s k = ltb (length s) (bytesABlock * (k + 1))
 
 -- "all 128 words add to 0 modulo 2^32"
 unfoldable pub addsToZero : List ℕ → ℕ → Bool
-addsToZero s k = eqb (sumOf s (128 * k) 128 % 2 ^ 32) 0
+addsToZero s k = eqb (sumOf s (wordsABlock * k) wordsABlock % 2 ^ 32) 0
 
 -- "word 0 kind .., word 1 block number, counted from 0 through the whole file, word 2 records used"
 abbrev pub isExpected : List ℕ → ℕ → ℕ → ℕ → Bool
-isExpected s k kind count = eqb (wordIn s (128 * k)) kind && (eqb (wordIn s (128 * k + 1)) k && eqb (wordIn s (128 * k + 2)) count)
+isExpected s k kind count =
+    eqb (wordIn s (wordsABlock * k)) kind && (eqb (wordIn s (wordsABlock * k + 1)) k && eqb (wordIn s (wordsABlock * k + 2)) count)
 
 -- the rows 1, 2, 3 for the block k, where this kind and count are expected
 unfoldable pub blockNumber : List ℕ → ℕ → ℕ → ℕ → ℕ
@@ -35,26 +37,27 @@ blockNumber s k kind count =
 
 -- ---- the blocks of a file
 
--- "Vertex record, 9 a block": how many blocks n vertices take
+-- how many blocks n vertices take
 abbrev pub vertexBlocks : ℕ → ℕ
-vertexBlocks n = (n + 8) / 9
+vertexBlocks n = (n + (verticesABlock - 1)) / verticesABlock
 
--- "Element record: 4 words, 31 a block": how many blocks n elements take
+-- how many blocks n elements take
 abbrev pub elementBlocks : ℕ → ℕ
-elementBlocks n = (n + 30) / 31
+elementBlocks n = (n + (elementsABlock - 1)) / elementsABlock
 
--- "2 vertices, 3 elements": the kind of the block k, from 1 on
+-- the kind of the block k, from 1 on
 abbrev pub kindOf : ℕ → ℕ → ℕ
-kindOf vertices k = cond (leb k (vertexBlocks vertices)) 2 3
+kindOf vertices k = cond (leb k (vertexBlocks vertices)) vertexKind elementKind
 
 -- "Every block but the last of its kind is full": the count of the block k, from 1 on
 abbrev pub countOf : ℕ → ℕ → ℕ → ℕ
 countOf vertices elements k =
-    cond (leb k (vertexBlocks vertices)) (min 9 (vertices - 9 * (k - 1))) (min 31 (elements - 31 * (k - 1 - vertexBlocks vertices)))
+    cond (leb k (vertexBlocks vertices)) (min verticesABlock (vertices - verticesABlock * (k - 1)))
+    (min elementsABlock (elements - elementsABlock * (k - 1 - vertexBlocks vertices)))
 
 -- "bytes follow that block": 1 for bytes from the block k on
 abbrev pub endNumber : List ℕ → ℕ → ℕ
-endNumber s k = cond (ltb (512 * k) (length s)) 1 0
+endNumber s k = cond (ltb (bytesABlock * k) (length s)) 1 0
 
 -- "Blocks are checked one by one": n blocks from the block k on, and then the end
 unfoldable pub blocksFrom : List ℕ → ℕ → ℕ → ℕ → ℕ → ℕ
@@ -62,17 +65,17 @@ blocksFrom s vertices elements zero k = endNumber s k
 blocksFrom s vertices elements (suc n) k =
     firstOf (blockNumber s k (kindOf vertices k) (countOf vertices elements k)) (blocksFrom s vertices elements n (k + 1))
 
--- "Header record: vertices, elements, .."
+-- the header's first number: vertices
 abbrev pub verticesIn : List ℕ → ℕ
-verticesIn s = wordIn s 3
+verticesIn s = wordIn s verticesPlace
 
 -- the header's second number: elements
 abbrev pub elementsIn : List ℕ → ℕ
-elementsIn s = wordIn s 4
+elementsIn s = wordIn s elementsPlace
 
 -- "`plot`'s own count limits (10) come right after the header block"
 abbrev pub limitNumber : ℕ → ℕ → ℕ
-limitNumber vertices elements = cond (ltb 24 vertices || ltb 24 elements) 10 0
+limitNumber vertices elements = cond (ltb mostVertices vertices || ltb mostElements elements) 10 0
 
 -- the blocks behind the header, by the header's counts
 unfoldable pub bodyNumber : List ℕ → ℕ → ℕ → ℕ
@@ -81,7 +84,7 @@ bodyNumber s vertices elements =
 
 -- 1, 2, 3 or 10 for the whole file, and 0 where none applies
 unfoldable pub fileNumber : List ℕ → ℕ
-fileNumber s = firstOf (blockNumber s 0 1 1) (bodyNumber s (verticesIn s) (elementsIn s))
+fileNumber s = firstOf (blockNumber s 0 headerKind 1) (bodyNumber s (verticesIn s) (elementsIn s))
 
 -- ---- the header's record
 
@@ -89,31 +92,31 @@ fileNumber s = firstOf (blockNumber s 0 1 1) (bodyNumber s (verticesIn s) (eleme
 unfoldable pub headerOptions : List ℕ → Options
 headerOptions s = record {
   bounds = record {
-    lo = record { x = floatIn s 5; y = floatIn s 9; z = floatIn s 13 };
-    hi = record { x = floatIn s 7; y = floatIn s 11; z = floatIn s 15 };
+    lo = record { x = floatIn s boundsPlace; y = floatIn s (boundsPlace + 4); z = floatIn s (boundsPlace + 8) };
+    hi = record { x = floatIn s (boundsPlace + 2); y = floatIn s (boundsPlace + 6); z = floatIn s (boundsPlace + 10) };
   };
-  cells = record { x = wordIn s 17; y = wordIn s 18; z = wordIn s 19 };
-  periodic = wordIn s 20;
-  passes = wordIn s 21;
+  cells = record { x = wordIn s cellsPlace; y = wordIn s (cellsPlace + 1); z = wordIn s (cellsPlace + 2) };
+  periodic = wordIn s periodicPlace;
+  passes = wordIn s passesPlace;
 }
 
--- "number of fields, then 8 places of kind and 4 f64"
+-- how many fields there are
 abbrev pub fieldsIn : List ℕ → ℕ
-fieldsIn s = wordIn s 22
+fieldsIn s = wordIn s countPlace
 
 -- the kind in the place j of a field
 abbrev pub kindAt : List ℕ → ℕ → ℕ
-kindAt s j = wordIn s (23 + 9 * j)
+kindAt s j = wordIn s (firstField + fieldSize * j)
 
 -- "(level: c; plane: n, d; ball: c, r)": a field's numbers from the word i on, "numbers that a field's kind doesn't use are not read"
 unfoldable pub fieldFrom : List ℕ → ℕ → ℕ → Field
 fieldFrom s kind i =
-    cond (eqb kind 0) (Level (floatIn s i))
-    (cond (eqb kind 1) (Plane (pointFrom s i) (floatIn s (i + 6))) (Ball (pointFrom s i) (floatIn s (i + 6))))
+    cond (eqb kind levelKind) (Level (floatIn s i))
+    (cond (eqb kind planeKind) (Plane (pointFrom s i) (floatIn s (i + 6))) (Ball (pointFrom s i) (floatIn s (i + 6))))
 
 -- the field j, and a level 0 where "unused field places .. are not read"
 unfoldable pub fieldAt : List ℕ → ℕ → Field
-fieldAt s j = cond (ltb j (fieldsIn s)) (fieldFrom s (kindAt s j) (24 + 9 * j)) (Level zero64)
+fieldAt s j = cond (ltb j (fieldsIn s)) (fieldFrom s (kindAt s j) (firstField + 1 + fieldSize * j)) (Level zero64)
 
 -- the fields in their 8 places
 abbrev pub headerFields : List ℕ → List Field
@@ -122,13 +125,13 @@ headerFields s =
 
 -- "over 8 fields, an unknown kind": of the row 11 what an enum of three kinds and 8 places cannot hold
 unfoldable pub kindsNumber : List ℕ → ℕ
-kindsNumber s = cond (leb (fieldsIn s) 8 && every (λ j. leb (kindAt s j) 2) (numbers 0 (fieldsIn s))) 0 11
+kindsNumber s = cond (leb (fieldsIn s) fieldPlaces && every (λ j. leb (kindAt s j) ballKind) (numbers 0 (fieldsIn s))) 0 11
 
 -- ---- vertex and element records
 
--- where the record of the vertex v begins: "words 3 to 126 records"
+-- where the record of the vertex v begins
 unfoldable pub vertexPlace : ℕ → ℕ
-vertexPlace v = 128 * (1 + v / 9) + 3 + 13 * (v % 9)
+vertexPlace v = wordsABlock * (1 + v / verticesABlock) + firstRecord + vertexSize * (v % verticesABlock)
 
 -- "3 parameters, 3 point coordinates, mask"
 unfoldable pub parameterRow : List ℕ → ℕ → List Float
@@ -144,7 +147,7 @@ maskRow s v = wordIn s (vertexPlace v + 12) ∷ []
 
 -- where the record of the element e begins, behind this many blocks
 unfoldable pub elementPlace : ℕ → ℕ → ℕ
-elementPlace blocks e = 128 * (blocks + e / 31) + 3 + 4 * (e % 31)
+elementPlace blocks e = wordsABlock * (blocks + e / elementsABlock) + firstRecord + elementSize * (e % elementsABlock)
 
 -- the four vertices of the element e, behind this many blocks
 unfoldable pub elementRow : List ℕ → ℕ → ℕ → List ℕ

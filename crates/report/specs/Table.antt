@@ -11,10 +11,10 @@ use Rattle.geometry.specs.declared.point.Point.{Point}
 use Rattle.geometry.specs.declared.field.Field.{Field}
 use Rattle.geometry.specs.Float.{zero64}
 use Rattle.geometry.specs.Field.{value}
-use Rattle.geometry.specs.Score.{score, bad}
 use Rattle.mesh.specs.declared.element.Tet.{Tet}
 use Rattle.mesh.specs.Words.{pointAt}
 use Rattle.mesh.specs.Complex.{keep}
+use Rattle.mesh.specs.Measure.{measure, badCount}
 
 -- ---- numbers
 
@@ -155,10 +155,6 @@ isInside points f t = le (value f (placeOf points t)) zero64
 unfoldable pub insideCount : List Point → List Tet → Field → ℕ
 insideCount points elements f = length (keep (isInside points f) elements)
 
--- "bad elements": score below 0.1
-abbrev pub isLow : List Point → Tet → Bool
-isLow points t = bad (score (pointAt points (t .a)) (pointAt points (t .b)) (pointAt points (t .c)) (pointAt points (t .d)))
-
--- how many elements are bad
+-- "bad elements"
 unfoldable pub lowCount : List Point → List Tet → ℕ
-lowCount points elements = length (keep (isLow points) elements)
+lowCount points elements = badCount (measure points) elements

@@ -1,5 +1,5 @@
 -- Block files as written (document 01, "Block"): `fileOf` is the file of a plot, and reading it gives the plot back (proofs/Laws/Write).
--- The file is a list of words, 128 a block, and each word is four bytes. "Spare words, unused field places and numbers that a field's
+-- The file is a list of words, block after block, and each word is four bytes. "Spare words, unused field places and numbers that a field's
 -- kind doesn't use" are 0. A float has the words of its pattern; a NaN's is 0x7FF8000000000000, so that it is read as a NaN.
 -- Definitions only.
 use mathlib.Core.Path.{_≡_}
@@ -17,6 +17,7 @@ use Rattle.geometry.specs.declared.point.Point.{Point}
 use Rattle.geometry.specs.Float.{zero64}
 use Rattle.geometry.specs.Word.{lowWord, highWord}
 use Rattle.mesh.specs.Words.{wordAt, floatAt, zeroWords}
+use Rattle.report.specs.Format.{bytesABlock, headerKind, vertexKind, elementKind, recordRoom, verticesABlock, elementsABlock, fieldPlaces, fieldSize, levelKind, planeKind, ballKind, mostVertices, mostElements}
 use Rattle.report.specs.Bytes.{listed}
 use Rattle.report.specs.Block.{Plot, vertexBlocks, elementBlocks}
 
@@ -46,9 +47,9 @@ pointWords p = floatWords (p .x) ++ (floatWords (p .y) ++ floatWords (p .z))
 
 -- ---- a block
 
--- words 0 to 126: kind, block number, records used, "words 3 to 126 records", and 0 in the spare words
+-- words 0 to 126: kind, block number, records used, the records, and 0 in the spare words
 unfoldable pub blockFront : ℕ → ℕ → ℕ → List ℕ → List ℕ
-blockFront kind number count records = kind ∷ number ∷ count ∷ (records ++ zeroWords (124 - length records))
+blockFront kind number count records = kind ∷ number ∷ count ∷ (records ++ zeroWords (recordRoom - length records))
 
 -- what makes a sum 0 modulo 2^32
 abbrev pub checkOf : ℕ → ℕ
@@ -72,22 +73,22 @@ optionsWords o = boundsWords (o .bounds) ++ (o .cells .x ∷ o .cells .y ∷ o .
 
 -- "kind and 4 f64 (level: c; plane: n, d; ball: c, r)"
 unfoldable pub fieldWords : Field → List ℕ
-fieldWords (Level c) = (0 ∷ []) ++ (floatWords c ++ zeroWords 6)
-fieldWords (Plane n d) = (1 ∷ []) ++ (pointWords n ++ floatWords d)
-fieldWords (Ball c r) = (2 ∷ []) ++ (pointWords c ++ floatWords r)
+fieldWords (Level c) = (levelKind ∷ []) ++ (floatWords c ++ zeroWords 6)
+fieldWords (Plane n d) = (planeKind ∷ []) ++ (pointWords n ++ floatWords d)
+fieldWords (Ball c r) = (ballKind ∷ []) ++ (pointWords c ++ floatWords r)
 
 -- the place j of a field: unused from the number of fields on
 unfoldable pub placeWords : ℕ → List Field → ℕ → List ℕ
-placeWords count fields j = cond (ltb j count) (fieldWords (getD fields j (Level zero64))) (zeroWords 9)
+placeWords count fields j = cond (ltb j count) (fieldWords (getD fields j (Level zero64))) (zeroWords fieldSize)
 
 -- "Header record: vertices, elements, lo and hi .., passes, number of fields, then 8 places"
 unfoldable pub headerRecord : Options → ℕ → List Field → ℕ → ℕ → List ℕ
 headerRecord o count fields vertices elements =
-    (vertices ∷ elements ∷ []) ++ (optionsWords o ++ ((count ∷ []) ++ listed (placeWords count fields) 8))
+    (vertices ∷ elements ∷ []) ++ (optionsWords o ++ ((count ∷ []) ++ listed (placeWords count fields) fieldPlaces))
 
 -- "1 header": the block 0, with one record
 unfoldable pub headerFront : Options → ℕ → List Field → ℕ → ℕ → List ℕ
-headerFront o count fields vertices elements = blockFront 1 0 1 (headerRecord o count fields vertices elements)
+headerFront o count fields vertices elements = blockFront headerKind 0 1 (headerRecord o count fields vertices elements)
 
 -- ---- vertex and element records
 
@@ -108,17 +109,19 @@ elementRecord corners e = wordAt corners (4 * e) ∷ wordAt corners (4 * e + 1) 
 abbrev pub recordsFrom : (ℕ → List ℕ) → ℕ → ℕ → List ℕ
 recordsFrom row first n = listed (λ (r : ℕ). row (first + r)) n
 
--- "Vertex record, 9 a block", "Every block but the last of its kind is full": the block k of the file, with vertices
+-- "Every block but the last of its kind is full": the block k of the file, with vertices
 unfoldable pub vertexFront : List Float → List Float → List ℕ → ℕ → ℕ → List ℕ
 vertexFront parameters points masks vertices k =
-    blockFront 2 k (min 9 (vertices - 9 * (k - 1)))
-    (recordsFrom (vertexRecord parameters points masks) (9 * (k - 1)) (min 9 (vertices - 9 * (k - 1))))
+    let first = verticesABlock * (k - 1) in
+    let n = min verticesABlock (vertices - first) in
+    blockFront vertexKind k n (recordsFrom (vertexRecord parameters points masks) first n)
 
--- "Element record ..: 31 a block": the block k of the file, with elements, behind this many blocks of vertices
+-- the block k of the file, with elements, behind this many blocks of vertices
 unfoldable pub elementFront : List ℕ → ℕ → ℕ → ℕ → List ℕ
 elementFront corners elements before k =
-    blockFront 3 k (min 31 (elements - 31 * (k - 1 - before)))
-    (recordsFrom (elementRecord corners) (31 * (k - 1 - before)) (min 31 (elements - 31 * (k - 1 - before))))
+    let first = elementsABlock * (k - 1 - before) in
+    let n = min elementsABlock (elements - first) in
+    blockFront elementKind k n (recordsFrom (elementRecord corners) first n)
 
 -- ---- the file
 
@@ -151,11 +154,11 @@ pub record Rooms : Type 0 where
   pub corners : ℕ
   pub out : ℕ
 
--- what is written: at most 24 vertices, 24 elements and 8 fields, where the lists hold as many and the slice has room for the file
+-- what is written: vertices, elements and fields within their limits, where the lists hold as many and the slice has room for the file
 unfoldable pub roomFor : ℕ → ℕ → ℕ → Rooms → Bool
 roomFor count vertices elements l =
-    leb vertices 24 && (leb elements 24 && (leb count 8 && (leb (3 * vertices) (l .parameters) && (leb (3 * vertices) (l .points)
-    && (leb vertices (l .masks) && (leb (4 * elements) (l .corners) && leb (512 * blocksOf vertices elements) (l .out)))))))
+    leb vertices mostVertices && (leb elements mostElements && (leb count fieldPlaces && (leb (3 * vertices) (l .parameters) && (leb (3 * vertices) (l .points)
+    && (leb vertices (l .masks) && (leb (4 * elements) (l .corners) && leb (bytesABlock * blocksOf vertices elements) (l .out)))))))
 
 -- whether the file is written into a slice of this length
 abbrev pub hasRoom : Plot → ℕ → Bool
@@ -165,11 +168,11 @@ hasRoom p room =
 
 -- the slice behind the writing: the file at its front, and as it was where nothing is written
 unfoldable pub fileInto : Plot → List ℕ → List ℕ
-fileInto p out = cond (hasRoom p (length out)) (fileOf p ++ drop (512 * blocksOf (p .vertices) (p .elements)) out) out
+fileInto p out = cond (hasRoom p (length out)) (fileOf p ++ drop (bytesABlock * blocksOf (p .vertices) (p .elements)) out) out
 
 -- how many bytes are written, 0 where none
 unfoldable pub fileSize : Plot → ℕ → ℕ
-fileSize p room = cond (hasRoom p room) (512 * blocksOf (p .vertices) (p .elements)) 0
+fileSize p room = cond (hasRoom p room) (bytesABlock * blocksOf (p .vertices) (p .elements)) 0
 
 -- ---- what is read back
 
@@ -207,9 +210,9 @@ FieldFits (Ball c r) = PointFits c × T (fits binary64 r)
 
 -- a plot of f64 and 32-bit words, within the limits, whose lists hold what the counts say
 pub record Sound (p : Plot) : Type 0 where
-  pub vertices-few : p .vertices ≤ 24
-  pub elements-few : p .elements ≤ 24
-  pub count-few : p .count ≤ 8
+  pub vertices-few : p .vertices ≤ mostVertices
+  pub elements-few : p .elements ≤ mostElements
+  pub count-few : p .count ≤ fieldPlaces
   pub parameters-in : 3 * p .vertices ≤ length (p .parameters)
   pub points-in : 3 * p .vertices ≤ length (p .points)
   pub masks-in : p .vertices ≤ length (p .masks)
@@ -231,5 +234,5 @@ pub record Exact (p : Plot) : Type 0 where
   pub points-all : length (p .points) ≡ 3 * p .vertices
   pub masks-all : length (p .masks) ≡ p .vertices
   pub corners-all : length (p .corners) ≡ 4 * p .elements
-  pub fields-all : length (p .fields) ≡ 8
-  pub unused : (j : ℕ) → p .count ≤ j → j < 8 → getD (p .fields) j (Level zero64) ≡ Level zero64
+  pub fields-all : length (p .fields) ≡ fieldPlaces
+  pub unused : (j : ℕ) → p .count ≤ j → j < fieldPlaces → getD (p .fields) j (Level zero64) ≡ Level zero64

@@ -1,8 +1,20 @@
 // The blocks of a file: the numbers 1, 2, 3 and 10.
 use crate::bytes::sum;
 use crate::bytes::word;
+use crate::format::BYTES_A_BLOCK;
+use crate::format::ELEMENT_KIND;
+use crate::format::ELEMENTS_A_BLOCK;
+use crate::format::ELEMENTS_PLACE;
+use crate::format::HEADER_KIND;
+use crate::format::MOST_ELEMENTS;
+use crate::format::MOST_VERTICES;
+use crate::format::VERTEX_KIND;
+use crate::format::VERTICES_A_BLOCK;
+use crate::format::VERTICES_PLACE;
+use crate::format::WORDS_A_BLOCK;
 ghost use mathlib.Core.Path.{_≡_};
 ghost use Prim.Native.Nat.{_<_, _≤_, _-_, _+_, _*_, min};
+ghost use Rattle.report.specs.Format.{mostVertices, mostElements};
 ghost use Rattle.report.specs.Block.{addsToZero, isExpected, blockNumber, vertexBlocks, elementBlocks, kindOf, countOf, endNumber, blocksFrom, bodyNumber, fileNumber};
 
 // n - m, and 0 where m is above n.
@@ -13,7 +25,7 @@ fn minus(n: usize, m: usize) -> usize
 }
 
 // The smaller of n and m.
-fn least(n: usize, m: usize) -> usize
+pub(crate) fn least(n: usize, m: usize) -> usize
     ensures { λ r. ⌜ r ≡ min n m ⌝ }
 {
     if n <= m { n } else { m }
@@ -24,29 +36,29 @@ fn adds_to_zero(s: &[u8], k: usize) -> bool
     requires { ⌜ k < 1000 ⌝ }
     ensures { λ r. ⌜ r ≡ addsToZero (now (s .entry)) k ⌝ }
 {
-    sum(s, 128 * k) == 0
+    sum(s, WORDS_A_BLOCK * k) == 0
 }
 
 // Whether the block k has this kind, its number and this count.
-fn is_expected(s: &[u8], k: usize, kind: usize, count: usize) -> bool
+fn is_expected(s: &[u8], k: usize, kind: u32, count: usize) -> bool
     requires { ⌜ k < 1000 ⌝ }
     ensures { λ r. ⌜ r ≡ isExpected (now (s .entry)) k kind count ⌝ }
 {
-    if word(s, 128 * k) as usize != kind {
+    if word(s, WORDS_A_BLOCK * k) != kind {
         return false;
     }
-    if word(s, 128 * k + 1) as usize != k {
+    if word(s, WORDS_A_BLOCK * k + 1) as usize != k {
         return false;
     }
-    word(s, 128 * k + 2) as usize == count
+    word(s, WORDS_A_BLOCK * k + 2) as usize == count
 }
 
 // 1, 2 or 3 for the block k, and else 0.
-pub(crate) fn block_number(s: &[u8], k: usize, kind: usize, count: usize) -> u32
+pub(crate) fn block_number(s: &[u8], k: usize, kind: u32, count: usize) -> u32
     requires { ⌜ k < 1000 ⌝ }
     ensures { λ r. ⌜ r ≡ blockNumber (now (s .entry)) k kind count ⌝ }
 {
-    if s.len() < 512 * (k + 1) {
+    if s.len() < BYTES_A_BLOCK * (k + 1) {
         return 1;
     }
     if !adds_to_zero(s, k) {
@@ -60,39 +72,46 @@ pub(crate) fn block_number(s: &[u8], k: usize, kind: usize, count: usize) -> u32
 
 // How many blocks n vertices take.
 pub(crate) fn vertex_blocks(n: usize) -> usize
-    requires { ⌜ n ≤ 24 ⌝ }
+    requires { ⌜ n ≤ mostVertices ⌝ }
     ensures { λ r. ⌜ (r ≡ vertexBlocks n) × (r ≤ 3) ⌝ }
 {
-    (n + 8) / 9
+    (n + (VERTICES_A_BLOCK - 1)) / VERTICES_A_BLOCK
 }
 
 // How many blocks n elements take.
-fn element_blocks(n: usize) -> usize
-    requires { ⌜ n ≤ 24 ⌝ }
+pub(crate) fn element_blocks(n: usize) -> usize
+    requires { ⌜ n ≤ mostElements ⌝ }
     ensures { λ r. ⌜ (r ≡ elementBlocks n) × (r ≤ 1) ⌝ }
 {
-    (n + 30) / 31
+    (n + (ELEMENTS_A_BLOCK - 1)) / ELEMENTS_A_BLOCK
 }
 
 // The kind of the block k, from 1 on.
-fn kind_of(vertices: usize, k: usize) -> usize
-    requires { ⌜ vertices ≤ 24 ⌝ }
+fn kind_of(vertices: usize, k: usize) -> u32
+    requires { ⌜ vertices ≤ mostVertices ⌝ }
     ensures { λ r. ⌜ r ≡ kindOf vertices k ⌝ }
 {
-    if k <= vertex_blocks(vertices) { 2 } else { 3 }
+    if k <= vertex_blocks(vertices) {
+        VERTEX_KIND
+    } else {
+        ELEMENT_KIND
+    }
 }
 
 // The count of the block k, from 1 on.
 fn count_of(vertices: usize, elements: usize, k: usize) -> usize
-    requires { ⌜ (vertices ≤ 24) × (k < 1000) ⌝ }
+    requires { ⌜ (vertices ≤ mostVertices) × (k < 1000) ⌝ }
     ensures { λ r. ⌜ r ≡ countOf vertices elements k ⌝ }
 {
     let b = vertex_blocks(vertices);
     let before = minus(k, 1);
     if k <= b {
-        return least(9, minus(vertices, 9 * before));
+        return least(VERTICES_A_BLOCK, minus(vertices, VERTICES_A_BLOCK * before));
     }
-    least(31, minus(elements, 31 * minus(before, b)))
+    least(
+        ELEMENTS_A_BLOCK,
+        minus(elements, ELEMENTS_A_BLOCK * minus(before, b)),
+    )
 }
 
 // 1 for bytes from the block k on, and else 0.
@@ -100,12 +119,12 @@ fn end_number(s: &[u8], k: usize) -> u32
     requires { ⌜ k < 1000 ⌝ }
     ensures { λ r. ⌜ r ≡ endNumber (now (s .entry)) k ⌝ }
 {
-    if 512 * k < s.len() { 1 } else { 0 }
+    if BYTES_A_BLOCK * k < s.len() { 1 } else { 0 }
 }
 
 // 1, 2 or 3 for the block k behind the header, and else 0.
 fn next_number(s: &[u8], vertices: usize, elements: usize, k: usize) -> u32
-    requires { ⌜ (vertices ≤ 24) × (k < 1000) ⌝ }
+    requires { ⌜ (vertices ≤ mostVertices) × (k < 1000) ⌝ }
     ensures { λ r. ⌜ r ≡ blockNumber (now (s .entry)) k (kindOf vertices k) (countOf vertices elements k) ⌝ }
 {
     block_number(s, k, kind_of(vertices, k), count_of(vertices, elements, k))
@@ -113,7 +132,7 @@ fn next_number(s: &[u8], vertices: usize, elements: usize, k: usize) -> u32
 
 // The first number of n blocks from the block 1 on and of the end, and else 0.
 fn blocks_number(s: &[u8], vertices: usize, elements: usize, n: usize) -> u32
-    requires { ⌜ (vertices ≤ 24) × (n ≤ 4) ⌝ }
+    requires { ⌜ (vertices ≤ mostVertices) × (n ≤ 4) ⌝ }
     ensures { λ r. ⌜ r ≡ blocksFrom (now (s .entry)) vertices elements n 1 ⌝ }
 {
     let mut k = 1;
@@ -133,10 +152,10 @@ fn blocks_number(s: &[u8], vertices: usize, elements: usize, n: usize) -> u32
 fn body_number(s: &[u8], vertices: usize, elements: usize) -> u32
     ensures { λ r. ⌜ r ≡ bodyNumber (now (s .entry)) vertices elements ⌝ }
 {
-    if 24 < vertices {
+    if MOST_VERTICES < vertices {
         return 10;
     }
-    if 24 < elements {
+    if MOST_ELEMENTS < elements {
         return 10;
     }
     blocks_number(
@@ -151,9 +170,13 @@ fn body_number(s: &[u8], vertices: usize, elements: usize) -> u32
 pub fn file_number(s: &[u8]) -> u32
     ensures { λ r. ⌜ r ≡ fileNumber (now (s .entry)) ⌝ }
 {
-    let number = block_number(s, 0, 1, 1);
+    let number = block_number(s, 0, HEADER_KIND, 1);
     if number != 0 {
         return number;
     }
-    body_number(s, word(s, 3) as usize, word(s, 4) as usize)
+    body_number(
+        s,
+        word(s, VERTICES_PLACE) as usize,
+        word(s, ELEMENTS_PLACE) as usize,
+    )
 }

@@ -1,8 +1,10 @@
 // Bytes as words and floats. A byte past the end is 0.
+use crate::format::WORDS_A_BLOCK;
 use geometry::point::Point;
 use geometry::word::from_words;
 ghost use mathlib.Core.Path.{_≡_};
 ghost use Prim.Native.Nat.{_<_, _%_, _^_};
+ghost use Rattle.report.specs.Format.{wordsABlock};
 ghost use Rattle.report.specs.Bytes.{byteAt, wordIn, floatIn, pointFrom, sumOf};
 
 // The byte at i.
@@ -44,14 +46,14 @@ pub(crate) fn point(s: &[u8], i: usize) -> Point
     }
 }
 
-// The sum of the 128 words from the word i on, modulo 2^32.
+// The sum of a block's words, from the word i on, modulo 2^32.
 pub(crate) fn sum(s: &[u8], i: usize) -> u32
     requires { ⌜ i < 900000 ⌝ }
-    ensures { λ r. ⌜ r ≡ sumOf (now (s .entry)) i 128 % 2 ^ 32 ⌝ }
+    ensures { λ r. ⌜ r ≡ sumOf (now (s .entry)) i wordsABlock % 2 ^ 32 ⌝ }
 {
     let mut total: u32 = 0;
     let mut n = 0;
-    while n < 128 {
+    while n < WORDS_A_BLOCK {
         total = std::num::wrapping_add_u32(total, word(s, i + n));
         n += 1;
     }

@@ -1,17 +1,16 @@
 // How many elements are bad, and how many are inside a field.
 use geometry::field::Field;
 use geometry::field::value;
-use geometry::score::is_bad;
-use geometry::score::score;
 use mesh::element::Tet;
-use mesh::list::vertex_point;
+use mesh::measure::is_bad_element;
 use mesh::vertex::tet_at;
+use mesh::vertex::vertex_point;
 ghost use mathlib.Core.Path.{_≡_};
 ghost use mathlib.Core.Bool.{cond};
 ghost use Prim.Native.Nat.{_<_, _≤_, _+_};
 ghost use Rattle.mesh.specs.Words.{pointsOf};
 ghost use Rattle.mesh.specs.Element.{tets};
-ghost use Rattle.report.specs.Table.{isInside, insideCount, isLow, lowCount};
+ghost use Rattle.report.specs.Table.{isInside, insideCount, lowCount};
 
 // Whether an element is inside a field.
 fn is_inside(f: Field, points: &[f64], nv: usize, t: Tet) -> bool
@@ -19,17 +18,6 @@ fn is_inside(f: Field, points: &[f64], nv: usize, t: Tet) -> bool
 {
     let p = vertex_point(points, nv, t.a);
     value(f, p) <= 0.0
-}
-
-// Whether an element is bad.
-fn is_low(points: &[f64], nv: usize, t: Tet) -> bool
-    ensures { λ r. ⌜ r ≡ isLow (pointsOf nv (now (points .entry))) t ⌝ }
-{
-    let a = vertex_point(points, nv, t.a);
-    let b = vertex_point(points, nv, t.b);
-    let c = vertex_point(points, nv, t.c);
-    let d = vertex_point(points, nv, t.d);
-    is_bad(score(a, b, c, d))
 }
 
 // k, and one more where the test holds.
@@ -64,7 +52,7 @@ pub(crate) fn low_count(points: &[f64], nv: usize, elements: &[u32], n: usize) -
     let mut i = 0;
     while i < n {
         let t = tet_at(elements, i);
-        k = add_if(k, is_low(points, nv, t));
+        k = add_if(k, is_bad_element(points, nv, t));
         i += 1;
     }
     k

@@ -3,6 +3,17 @@ use crate::block::file_number;
 use crate::bytes::float;
 use crate::bytes::point;
 use crate::bytes::word;
+use crate::format::BALL_KIND;
+use crate::format::BOUNDS_PLACE;
+use crate::format::CELLS_PLACE;
+use crate::format::COUNT_PLACE;
+use crate::format::FIELD_PLACES;
+use crate::format::FIELD_SIZE;
+use crate::format::FIRST_FIELD;
+use crate::format::LEVEL_KIND;
+use crate::format::PASSES_PLACE;
+use crate::format::PERIODIC_PLACE;
+use crate::format::PLANE_KIND;
 use geometry::bounds::Bounds;
 use geometry::bounds::Cells;
 use geometry::bounds::Options;
@@ -10,6 +21,7 @@ use geometry::field::Field;
 use geometry::point::Point;
 ghost use mathlib.Core.Path.{_≡_};
 ghost use Prim.Native.Nat.{_<_};
+ghost use Rattle.report.specs.Format.{fieldPlaces};
 ghost use Rattle.report.specs.Block.{headerOptions, fieldFrom, fieldAt, headerFields, kindsNumber, readingNumber};
 
 // Lo and hi per direction: x lo, x hi, y, z.
@@ -17,14 +29,14 @@ fn bounds(s: &[u8]) -> Bounds
     ensures { λ r. ⌜ r ≡ headerOptions (now (s .entry)) .bounds ⌝ }
 {
     let lo = Point {
-        x: float(s, 5),
-        y: float(s, 9),
-        z: float(s, 13),
+        x: float(s, BOUNDS_PLACE),
+        y: float(s, BOUNDS_PLACE + 4),
+        z: float(s, BOUNDS_PLACE + 8),
     };
     let hi = Point {
-        x: float(s, 7),
-        y: float(s, 11),
-        z: float(s, 15),
+        x: float(s, BOUNDS_PLACE + 2),
+        y: float(s, BOUNDS_PLACE + 6),
+        z: float(s, BOUNDS_PLACE + 10),
     };
     Bounds { lo, hi }
 }
@@ -34,15 +46,15 @@ pub fn options(s: &[u8]) -> Options
     ensures { λ r. ⌜ r ≡ headerOptions (now (s .entry)) ⌝ }
 {
     let cells = Cells {
-        x: word(s, 17),
-        y: word(s, 18),
-        z: word(s, 19),
+        x: word(s, CELLS_PLACE),
+        y: word(s, CELLS_PLACE + 1),
+        z: word(s, CELLS_PLACE + 2),
     };
     Options {
         bounds: bounds(s),
         cells,
-        periodic: word(s, 20),
-        passes: word(s, 21),
+        periodic: word(s, PERIODIC_PLACE),
+        passes: word(s, PASSES_PLACE),
     }
 }
 
@@ -51,10 +63,10 @@ fn field_from(s: &[u8], kind: u32, i: usize) -> Field
     requires { ⌜ i < 1000 ⌝ }
     ensures { λ r. ⌜ r ≡ fieldFrom (now (s .entry)) kind i ⌝ }
 {
-    if kind == 0 {
+    if kind == LEVEL_KIND {
         return Field::Level(float(s, i));
     }
-    if kind == 1 {
+    if kind == PLANE_KIND {
         return Field::Plane(point(s, i), float(s, i + 6));
     }
     Field::Ball(point(s, i), float(s, i + 6))
@@ -62,11 +74,15 @@ fn field_from(s: &[u8], kind: u32, i: usize) -> Field
 
 // The field j, and a level 0 for an unused place.
 fn field_at(s: &[u8], j: usize) -> Field
-    requires { ⌜ j < 8 ⌝ }
+    requires { ⌜ j < fieldPlaces ⌝ }
     ensures { λ r. ⌜ r ≡ fieldAt (now (s .entry)) j ⌝ }
 {
-    if j < word(s, 22) as usize {
-        return field_from(s, word(s, 23 + 9 * j), 24 + 9 * j);
+    if j < word(s, COUNT_PLACE) as usize {
+        return field_from(
+            s,
+            word(s, FIRST_FIELD + FIELD_SIZE * j),
+            FIRST_FIELD + 1 + FIELD_SIZE * j,
+        );
     }
     Field::Level(0.0)
 }
@@ -87,17 +103,17 @@ pub fn fields(s: &[u8]) -> [Field; 8]
     ]
 }
 
-// 11 for over 8 fields or an unknown kind, and else 0.
+// 11 for more fields than places or an unknown kind, and else 0.
 fn kinds_number(s: &[u8]) -> u32
     ensures { λ r. ⌜ r ≡ kindsNumber (now (s .entry)) ⌝ }
 {
-    let n = word(s, 22) as usize;
-    if 8 < n {
+    let n = word(s, COUNT_PLACE) as usize;
+    if FIELD_PLACES < n {
         return 11;
     }
     let mut j = 0;
     while j < n {
-        if 2 < word(s, 23 + 9 * j) {
+        if BALL_KIND < word(s, FIRST_FIELD + FIELD_SIZE * j) {
             return 11;
         }
         j += 1;

@@ -2,10 +2,12 @@
 mod block;
 mod bytes;
 mod count;
+mod format;
 mod header;
-mod passes;
+mod print;
 mod records;
 pub mod report;
+mod run;
 mod table;
 mod text;
 pub mod write;

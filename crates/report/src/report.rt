@@ -1,17 +1,24 @@
 // The whole text that `plot` prints for the bytes of a file.
 use crate::block::vertex_blocks;
 use crate::bytes::word;
+use crate::format::COUNT_PLACE;
+use crate::format::ELEMENTS_PLACE;
+use crate::format::MOST_ELEMENTS;
+use crate::format::MOST_VERTICES;
+use crate::format::VERTICES_PLACE;
 use crate::header::fields;
 use crate::header::options;
 use crate::header::reading_number;
-use crate::passes::from_improve;
+use crate::print::print_run;
 use crate::records::read_elements;
 use crate::records::read_masks;
 use crate::records::read_parameters;
 use crate::records::read_points;
+use crate::run::run_passes;
 use crate::text::refused_text;
 use mesh::boundary::Outcome;
 use mesh::boundary::boundary;
+use mesh::intake::Settings;
 use mesh::intake::Sizes;
 ghost use mathlib.Core.Path.{_≡_};
 ghost use Prim.Native.Nat.{_≤_, _*_};
@@ -19,14 +26,30 @@ ghost use lib.ListN.{length};
 ghost use lib.Seq.{sets};
 ghost use Rattle.mesh.specs.Element.{tets};
 ghost use Rattle.mesh.specs.Surface.{triplesOf, answerOf, surfaceWords};
-ghost use Rattle.repair.specs.Step.{State, over};
-ghost use Rattle.report.specs.Block.{readingNumber, plotIn};
-ghost use Rattle.report.specs.Report.{placed, blank, fromImprove, settingOf, report};
+ghost use Rattle.repair.specs.Step.{State, held, over};
+ghost use Rattle.report.specs.Format.{mostElements};
+ghost use Rattle.report.specs.Block.{readingNumber, plotIn, read};
+ghost use Rattle.report.specs.Report.{placed, textOf, report};
 ghost use Rattle.report.specs.Written.{Written, PlotRoom};
+
+// The lengths of the passes' buffers: specs/Report.antt says what they are for.
+const MOST_MADE: usize = MOST_ELEMENTS + MOST_ELEMENTS / 2;
+
+const POINT_ROOM: usize = 3 * MOST_VERTICES;
+
+const MASK_ROOM: usize = MOST_VERTICES;
+
+const ELEMENT_ROOM: usize = 4 * (2 * MOST_MADE);
+
+const SURFACE_ROOM: usize = 3 * (4 * MOST_MADE);
+
+const WORD_ROOM: usize = 256 * MOST_ELEMENTS + 32 * MOST_VERTICES + 1024;
+
+const FLOAT_ROOM: usize = 16 * MOST_VERTICES;
 
 // Puts the surface of n elements to the front of a slice, and gives how many triples it has: none where 16 or 17 applies.
 fn put_surface(elements: &[u32], n: usize, surface: &mut [u32], work: &mut [u32]) -> usize
-    requires { ⌜ (n ≤ 24) × (4 * n ≤ length (now elements)) × (12 * n ≤ length (now surface)) × (36 * n ≤ length (now work)) ⌝ }
+    requires { ⌜ (n ≤ mostElements) × (4 * n ≤ length (now elements)) × (12 * n ≤ length (now surface)) × (36 * n ≤ length (now work)) ⌝ }
     ensures { λ r. ⌜ (r ≡ triplesOf (answerOf (tets n (now (elements .entry)))))
         × (now (surface .exit) ≡ over (surfaceWords (tets n (now (elements .entry)))) (now (surface .entry))) ⌝ }
 {
@@ -49,11 +72,11 @@ fn read_plot(
 ) -> Sizes
     requires { ⌜ (readingNumber (now s) ≡ 0) × PlotRoom (length (now parameters)) (length (now points)) (length (now masks)) (length (now elements)) (length (now surface)) (length (now work)) ⌝ }
     ensures { λ r. ⌜ _≡_ {A = State}
-        (record { parameters = now (parameters .exit); points = now (points .exit); masks = now (masks .exit); elements = now (elements .exit); surface = now (surface .exit); sizes = r })
-        (placed (plotIn (now (s .entry))) (record { parameters = now (parameters .entry); points = now (points .entry); masks = now (masks .entry); elements = now (elements .entry); surface = now (surface .entry); sizes = record { vertices = 0; elements = 0; triples = 0 } })) ⌝ }
+        (held r (now (parameters .exit)) (now (points .exit)) (now (masks .exit)) (now (elements .exit)) (now (surface .exit)))
+        (placed (plotIn (now (s .entry))) (held (record { vertices = 0; elements = 0; triples = 0 }) (now (parameters .entry)) (now (points .entry)) (now (masks .entry)) (now (elements .entry)) (now (surface .entry)))) ⌝ }
 {
-    let v = word(s, 3) as usize;
-    let n = word(s, 4) as usize;
+    let v = word(s, VERTICES_PLACE) as usize;
+    let n = word(s, ELEMENTS_PLACE) as usize;
     read_parameters(s, v, parameters);
     read_points(s, v, points);
     read_masks(s, v, masks);
@@ -69,15 +92,15 @@ fn read_plot(
 // Writes what is printed for a file that is read.
 fn plot_text(s: &[u8], out: &mut [u8]) -> usize
     requires { ⌜ readingNumber (now s) ≡ 0 ⌝ }
-    ensures { λ r. ⌜ Written (now (out .entry)) (now (out .exit)) 0 r (fromImprove (settingOf (plotIn (now (s .entry)))) (placed (plotIn (now (s .entry))) blank)) × (r ≤ 50000) ⌝ }
+    ensures { λ r. ⌜ Written (now (out .entry)) (now (out .exit)) 0 r (textOf (read (plotIn (now (s .entry))))) × (r ≤ 50000) ⌝ }
 {
-    let mut parameters = [0.0; 72];
-    let mut points = [0.0; 72];
-    let mut masks = [0u32; 24];
-    let mut elements = [0u32; 288];
-    let mut surface = [0u32; 432];
-    let mut work = [0u32; 7936];
-    let mut floats = [0.0; 384];
+    let mut parameters = [0.0; POINT_ROOM];
+    let mut points = [0.0; POINT_ROOM];
+    let mut masks = [0u32; MASK_ROOM];
+    let mut elements = [0u32; ELEMENT_ROOM];
+    let mut surface = [0u32; SURFACE_ROOM];
+    let mut work = [0u32; WORD_ROOM];
+    let mut floats = [0.0; FLOAT_ROOM];
     let sizes = read_plot(
         s,
         &mut parameters,
@@ -87,12 +110,15 @@ fn plot_text(s: &[u8], out: &mut [u8]) -> usize
         &mut surface,
         &mut work,
     );
-    from_improve(
-        out,
+    let settings = Settings {
         sizes,
-        options(s),
-        word(s, 22),
-        fields(s),
+        options: options(s),
+        count: word(s, COUNT_PLACE),
+    };
+    let all = fields(s);
+    let ran = run_passes(
+        settings,
+        all,
         &mut parameters,
         &mut points,
         &mut masks,
@@ -100,7 +126,8 @@ fn plot_text(s: &[u8], out: &mut [u8]) -> usize
         &mut surface,
         &mut work,
         &mut floats,
-    )
+    );
+    print_run(out, ran, settings.count, all, &points, &elements, &mut work)
 }
 
 // Writes what `plot` prints for the bytes of a file to the front of `out`, and gives how many bytes that takes, at most 50,000. Bytes past

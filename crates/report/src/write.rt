@@ -1,5 +1,24 @@
 // The writer of block files: a plot's file, block by block, each word as four bytes.
+use crate::block::element_blocks;
+use crate::block::least;
 use crate::block::vertex_blocks;
+use crate::format::BALL_KIND;
+use crate::format::BYTES_A_BLOCK;
+use crate::format::ELEMENT_KIND;
+use crate::format::ELEMENT_SIZE;
+use crate::format::ELEMENTS_A_BLOCK;
+use crate::format::FIELD_PLACES;
+use crate::format::FIELD_SIZE;
+use crate::format::HEADER_KIND;
+use crate::format::HEADER_SIZE;
+use crate::format::LEVEL_KIND;
+use crate::format::MOST_ELEMENTS;
+use crate::format::MOST_VERTICES;
+use crate::format::PLANE_KIND;
+use crate::format::RECORD_ROOM;
+use crate::format::VERTEX_KIND;
+use crate::format::VERTEX_SIZE;
+use crate::format::VERTICES_A_BLOCK;
 use geometry::bounds::Bounds;
 use geometry::bounds::Cells;
 use geometry::bounds::Options;
@@ -12,9 +31,10 @@ use mesh::words::word;
 ghost use mathlib.Core.Path.{_≡_};
 ghost use mathlib.Core.Bool.{cond};
 ghost use mathlib.Core.List.{[], _∷_, _++_};
-ghost use Prim.Native.Nat.{_<_, _≤_, _+_, _-_, _*_, min};
+ghost use Prim.Native.Nat.{_<_, _≤_, _+_, _-_, _*_};
 ghost use lib.ListN.{length};
 ghost use Rattle.mesh.specs.Words.{zeroWords};
+ghost use Rattle.report.specs.Format.{bytesABlock, firstRecord, vertexSize, verticesABlock, elementSize, elementsABlock, headerSize, fieldPlaces, fieldSize, mostVertices, mostElements};
 ghost use Rattle.report.specs.Bytes.{listed};
 ghost use Rattle.report.specs.Write.{floatWords, pointWords, checkOf, closed, optionsWords, boundsWords, fieldWords, placeWords, headerRecord, headerFront, rowPoint, vertexRecord, elementRecord, recordsFrom, vertexFront, elementFront, fileBlock, blocksOf, roomFor, fileInto, fileSize};
 ghost use Rattle.report.specs.Put.{Put};
@@ -112,22 +132,22 @@ fn put_options(out: &mut [u8], c: Cursor, o: Options) -> Cursor
 
 // Writes a field: its kind and four f64, those that the kind does not use as 0.
 fn put_field(out: &mut [u8], c: Cursor, f: Field) -> Cursor
-    requires { ⌜ c .at + 36 ≤ length (now out) ⌝ }
-    ensures { λ r. ⌜ Put (now (out .entry)) (now (out .exit)) (c .at) (c .sum) (r .at) (r .sum) (fieldWords f) × (r .at ≡ c .at + 36) ⌝ }
+    requires { ⌜ c .at + 4 * fieldSize ≤ length (now out) ⌝ }
+    ensures { λ r. ⌜ Put (now (out .entry)) (now (out .exit)) (c .at) (c .sum) (r .at) (r .sum) (fieldWords f) × (r .at ≡ c .at + 4 * fieldSize) ⌝ }
 {
     match f {
         Field::Level(x) => {
-            let d = put_word(out, c, 0);
+            let d = put_word(out, c, LEVEL_KIND);
             let e = put_float(out, d, x);
             put_zeros(out, e, 6)
         }
         Field::Plane(n, x) => {
-            let d = put_word(out, c, 1);
+            let d = put_word(out, c, PLANE_KIND);
             let e = put_floats(out, d, n);
             put_float(out, e, x)
         }
         Field::Ball(p, x) => {
-            let d = put_word(out, c, 2);
+            let d = put_word(out, c, BALL_KIND);
             let e = put_floats(out, d, p);
             put_float(out, e, x)
         }
@@ -136,24 +156,24 @@ fn put_field(out: &mut [u8], c: Cursor, f: Field) -> Cursor
 
 // Writes a field's place: the field where the place is used, else zeros.
 fn put_place(out: &mut [u8], c: Cursor, f: Field, used: bool) -> Cursor
-    requires { ⌜ c .at + 36 ≤ length (now out) ⌝ }
-    ensures { λ r. ⌜ Put (now (out .entry)) (now (out .exit)) (c .at) (c .sum) (r .at) (r .sum) (cond used (fieldWords f) (zeroWords 9)) × (r .at ≡ c .at + 36) ⌝ }
+    requires { ⌜ c .at + 4 * fieldSize ≤ length (now out) ⌝ }
+    ensures { λ r. ⌜ Put (now (out .entry)) (now (out .exit)) (c .at) (c .sum) (r .at) (r .sum) (cond used (fieldWords f) (zeroWords fieldSize)) × (r .at ≡ c .at + 4 * fieldSize) ⌝ }
 {
     if used {
         return put_field(out, c, f);
     }
-    put_zeros(out, c, 9)
+    put_zeros(out, c, FIELD_SIZE)
 }
 
-// Writes the 8 places of fields, of which `count` are used.
+// Writes the places of fields, of which `count` are used.
 fn put_places(out: &mut [u8], c: Cursor, count: u32, fields: [Field; 8]) -> Cursor
-    requires { ⌜ c .at + 288 ≤ length (now out) ⌝ }
-    ensures { λ r. ⌜ Put (now (out .entry)) (now (out .exit)) (c .at) (c .sum) (r .at) (r .sum) (listed (placeWords count fields) 8) × (r .at ≡ c .at + 288) ⌝ }
+    requires { ⌜ c .at + 4 * (fieldPlaces * fieldSize) ≤ length (now out) ⌝ }
+    ensures { λ r. ⌜ Put (now (out .entry)) (now (out .exit)) (c .at) (c .sum) (r .at) (r .sum) (listed (placeWords count fields) fieldPlaces) × (r .at ≡ c .at + 4 * (fieldPlaces * fieldSize)) ⌝ }
 {
     let n = count as usize;
     let mut d = c;
     let mut j = 0;
-    while j < 8 {
+    while j < FIELD_PLACES {
         let f = fields[j];
         d = put_place(out, d, f, j < n);
         j += 1;
@@ -161,10 +181,10 @@ fn put_places(out: &mut [u8], c: Cursor, count: u32, fields: [Field; 8]) -> Curs
     d
 }
 
-// Writes the first three words of a block.
+// Writes the words of a block before its records.
 fn put_front(out: &mut [u8], at: usize, kind: u32, number: usize, count: usize) -> Cursor
-    requires { ⌜ (at + 12 ≤ length (now out)) × (number < 1000) × (count < 1000) ⌝ }
-    ensures { λ r. ⌜ Put (now (out .entry)) (now (out .exit)) at 0 (r .at) (r .sum) (kind ∷ number ∷ count ∷ []) × (r .at ≡ at + 12) ⌝ }
+    requires { ⌜ (at + 4 * firstRecord ≤ length (now out)) × (number < 1000) × (count < 1000) ⌝ }
+    ensures { λ r. ⌜ Put (now (out .entry)) (now (out .exit)) at 0 (r .at) (r .sum) (kind ∷ number ∷ count ∷ []) × (r .at ≡ at + 4 * firstRecord) ⌝ }
 {
     let c = Cursor { at, sum: 0 };
     let d = put_word(out, c, kind);
@@ -192,8 +212,8 @@ fn put_record(
     vertices: usize,
     elements: usize,
 ) -> Cursor
-    requires { ⌜ (c .at + 368 ≤ length (now out)) × (vertices ≤ 24) × (elements ≤ 24) ⌝ }
-    ensures { λ r. ⌜ Put (now (out .entry)) (now (out .exit)) (c .at) (c .sum) (r .at) (r .sum) (headerRecord o count fields vertices elements) × (r .at ≡ c .at + 368) ⌝ }
+    requires { ⌜ (c .at + 4 * headerSize ≤ length (now out)) × (vertices ≤ mostVertices) × (elements ≤ mostElements) ⌝ }
+    ensures { λ r. ⌜ Put (now (out .entry)) (now (out .exit)) (c .at) (c .sum) (r .at) (r .sum) (headerRecord o count fields vertices elements) × (r .at ≡ c .at + 4 * headerSize) ⌝ }
 {
     let d = put_word(out, c, vertices as u32);
     let e = put_word(out, d, elements as u32);
@@ -212,12 +232,12 @@ fn put_header(
     vertices: usize,
     elements: usize,
 ) -> usize
-    requires { ⌜ (at + 512 ≤ length (now out)) × (vertices ≤ 24) × (elements ≤ 24) ⌝ }
-    ensures { λ r. ⌜ Put (now (out .entry)) (now (out .exit)) at 0 r 0 (closed (headerFront o count fields vertices elements)) × (r ≡ at + 512) ⌝ }
+    requires { ⌜ (at + bytesABlock ≤ length (now out)) × (vertices ≤ mostVertices) × (elements ≤ mostElements) ⌝ }
+    ensures { λ r. ⌜ Put (now (out .entry)) (now (out .exit)) at 0 r 0 (closed (headerFront o count fields vertices elements)) × (r ≡ at + bytesABlock) ⌝ }
 {
-    let c = put_front(out, at, 1, 0, 1);
+    let c = put_front(out, at, HEADER_KIND, 0, 1);
     let d = put_record(out, c, o, count, fields, vertices, elements);
-    put_end(out, d, 32)
+    put_end(out, d, RECORD_ROOM - HEADER_SIZE)
 }
 
 // The three floats of the vertex v.
@@ -241,8 +261,8 @@ fn put_vertex(
     masks: &[u32],
     v: usize,
 ) -> Cursor
-    requires { ⌜ (c .at + 52 ≤ length (now out)) × (v < 1000) ⌝ }
-    ensures { λ r. ⌜ Put (now (out .entry)) (now (out .exit)) (c .at) (c .sum) (r .at) (r .sum) (vertexRecord (now (parameters .entry)) (now (points .entry)) (now (masks .entry)) v) × (r .at ≡ c .at + 52) ⌝ }
+    requires { ⌜ (c .at + 4 * vertexSize ≤ length (now out)) × (v < 1000) ⌝ }
+    ensures { λ r. ⌜ Put (now (out .entry)) (now (out .exit)) (c .at) (c .sum) (r .at) (r .sum) (vertexRecord (now (parameters .entry)) (now (points .entry)) (now (masks .entry)) v) × (r .at ≡ c .at + 4 * vertexSize) ⌝ }
 {
     let p = row_point(parameters, v);
     let d = put_floats(out, c, p);
@@ -261,8 +281,8 @@ fn put_vertices(
     first: usize,
     n: usize,
 ) -> Cursor
-    requires { ⌜ (c .at + 52 * n ≤ length (now out)) × (first < 100) × (n < 100) ⌝ }
-    ensures { λ r. ⌜ Put (now (out .entry)) (now (out .exit)) (c .at) (c .sum) (r .at) (r .sum) (recordsFrom (vertexRecord (now (parameters .entry)) (now (points .entry)) (now (masks .entry))) first n) × (r .at ≡ c .at + 52 * n) ⌝ }
+    requires { ⌜ (c .at + 4 * vertexSize * n ≤ length (now out)) × (first < 100) × (n < 100) ⌝ }
+    ensures { λ r. ⌜ Put (now (out .entry)) (now (out .exit)) (c .at) (c .sum) (r .at) (r .sum) (recordsFrom (vertexRecord (now (parameters .entry)) (now (points .entry)) (now (masks .entry))) first n) × (r .at ≡ c .at + 4 * vertexSize * n) ⌝ }
 {
     let mut d = c;
     let mut i = 0;
@@ -271,13 +291,6 @@ fn put_vertices(
         i += 1;
     }
     d
-}
-
-// The smaller of n and m.
-fn least(n: usize, m: usize) -> usize
-    ensures { λ r. ⌜ r ≡ min n m ⌝ }
-{
-    if n <= m { n } else { m }
 }
 
 // Writes the block k, with vertices.
@@ -290,20 +303,20 @@ fn put_vertex_block(
     vertices: usize,
     k: usize,
 ) -> usize
-    requires { ⌜ (at + 512 ≤ length (now out)) × (vertices ≤ 24) × (0 < k) × (9 * (k - 1) ≤ vertices) ⌝ }
-    ensures { λ r. ⌜ Put (now (out .entry)) (now (out .exit)) at 0 r 0 (closed (vertexFront (now (parameters .entry)) (now (points .entry)) (now (masks .entry)) vertices k)) × (r ≡ at + 512) ⌝ }
+    requires { ⌜ (at + bytesABlock ≤ length (now out)) × (vertices ≤ mostVertices) × (0 < k) × (verticesABlock * (k - 1) ≤ vertices) ⌝ }
+    ensures { λ r. ⌜ Put (now (out .entry)) (now (out .exit)) at 0 r 0 (closed (vertexFront (now (parameters .entry)) (now (points .entry)) (now (masks .entry)) vertices k)) × (r ≡ at + bytesABlock) ⌝ }
 {
-    let first = 9 * (k - 1);
-    let n = least(9, vertices - first);
-    let c = put_front(out, at, 2, k, n);
+    let first = VERTICES_A_BLOCK * (k - 1);
+    let n = least(VERTICES_A_BLOCK, vertices - first);
+    let c = put_front(out, at, VERTEX_KIND, k, n);
     let d = put_vertices(out, c, parameters, points, masks, first, n);
-    put_end(out, d, 124 - 13 * n)
+    put_end(out, d, RECORD_ROOM - VERTEX_SIZE * n)
 }
 
 // Writes the record of the element e.
 fn put_element(out: &mut [u8], c: Cursor, corners: &[u32], e: usize) -> Cursor
-    requires { ⌜ (c .at + 16 ≤ length (now out)) × (e < 1000) ⌝ }
-    ensures { λ r. ⌜ Put (now (out .entry)) (now (out .exit)) (c .at) (c .sum) (r .at) (r .sum) (elementRecord (now (corners .entry)) e) × (r .at ≡ c .at + 16) ⌝ }
+    requires { ⌜ (c .at + 4 * elementSize ≤ length (now out)) × (e < 1000) ⌝ }
+    ensures { λ r. ⌜ Put (now (out .entry)) (now (out .exit)) (c .at) (c .sum) (r .at) (r .sum) (elementRecord (now (corners .entry)) e) × (r .at ≡ c .at + 4 * elementSize) ⌝ }
 {
     let d = put_word(out, c, word(corners, 4 * e));
     let f = put_word(out, d, word(corners, 4 * e + 1));
@@ -313,8 +326,8 @@ fn put_element(out: &mut [u8], c: Cursor, corners: &[u32], e: usize) -> Cursor
 
 // Writes n element records from the element `first` on.
 fn put_elements(out: &mut [u8], c: Cursor, corners: &[u32], first: usize, n: usize) -> Cursor
-    requires { ⌜ (c .at + 16 * n ≤ length (now out)) × (first < 100) × (n < 100) ⌝ }
-    ensures { λ r. ⌜ Put (now (out .entry)) (now (out .exit)) (c .at) (c .sum) (r .at) (r .sum) (recordsFrom (elementRecord (now (corners .entry))) first n) × (r .at ≡ c .at + 16 * n) ⌝ }
+    requires { ⌜ (c .at + 4 * elementSize * n ≤ length (now out)) × (first < 100) × (n < 100) ⌝ }
+    ensures { λ r. ⌜ Put (now (out .entry)) (now (out .exit)) (c .at) (c .sum) (r .at) (r .sum) (recordsFrom (elementRecord (now (corners .entry))) first n) × (r .at ≡ c .at + 4 * elementSize * n) ⌝ }
 {
     let mut d = c;
     let mut i = 0;
@@ -334,14 +347,14 @@ fn put_element_block(
     before: usize,
     k: usize,
 ) -> usize
-    requires { ⌜ (at + 512 ≤ length (now out)) × (elements ≤ 24) × (before < k) × (k < 1000) × (31 * (k - 1 - before) ≤ elements) ⌝ }
-    ensures { λ r. ⌜ Put (now (out .entry)) (now (out .exit)) at 0 r 0 (closed (elementFront (now (corners .entry)) elements before k)) × (r ≡ at + 512) ⌝ }
+    requires { ⌜ (at + bytesABlock ≤ length (now out)) × (elements ≤ mostElements) × (before < k) × (k < 1000) × (elementsABlock * (k - 1 - before) ≤ elements) ⌝ }
+    ensures { λ r. ⌜ Put (now (out .entry)) (now (out .exit)) at 0 r 0 (closed (elementFront (now (corners .entry)) elements before k)) × (r ≡ at + bytesABlock) ⌝ }
 {
-    let first = 31 * (k - 1 - before);
-    let n = least(31, elements - first);
-    let c = put_front(out, at, 3, k, n);
+    let first = ELEMENTS_A_BLOCK * (k - 1 - before);
+    let n = least(ELEMENTS_A_BLOCK, elements - first);
+    let c = put_front(out, at, ELEMENT_KIND, k, n);
     let d = put_elements(out, c, corners, first, n);
-    put_end(out, d, 124 - 4 * n)
+    put_end(out, d, RECORD_ROOM - ELEMENT_SIZE * n)
 }
 
 // Writes the block k of a plot's file.
@@ -359,8 +372,8 @@ fn put_block(
     corners: &[u32],
     k: usize,
 ) -> usize
-    requires { ⌜ (at + 512 ≤ length (now out)) × (vertices ≤ 24) × (elements ≤ 24) × (k < blocksOf vertices elements) ⌝ }
-    ensures { λ r. ⌜ Put (now (out .entry)) (now (out .exit)) at 0 r 0 (fileBlock (record { options = o; count = count; fields = fields; vertices = vertices; elements = elements; parameters = now (parameters .entry); points = now (points .entry); masks = now (masks .entry); corners = now (corners .entry) }) k) × (r ≡ at + 512) ⌝ }
+    requires { ⌜ (at + bytesABlock ≤ length (now out)) × (vertices ≤ mostVertices) × (elements ≤ mostElements) × (k < blocksOf vertices elements) ⌝ }
+    ensures { λ r. ⌜ Put (now (out .entry)) (now (out .exit)) at 0 r 0 (fileBlock (record { options = o; count = count; fields = fields; vertices = vertices; elements = elements; parameters = now (parameters .entry); points = now (points .entry); masks = now (masks .entry); corners = now (corners .entry) }) k) × (r ≡ at + bytesABlock) ⌝ }
 {
     if k == 0 {
         return put_header(out, at, o, count, fields, vertices, elements);
@@ -386,8 +399,8 @@ fn put_blocks(
     corners: &[u32],
     n: usize,
 ) -> usize
-    requires { ⌜ (512 * n ≤ length (now out)) × (vertices ≤ 24) × (elements ≤ 24) × (n ≤ blocksOf vertices elements) ⌝ }
-    ensures { λ r. ⌜ Put (now (out .entry)) (now (out .exit)) 0 0 r 0 (listed (fileBlock (record { options = o; count = count; fields = fields; vertices = vertices; elements = elements; parameters = now (parameters .entry); points = now (points .entry); masks = now (masks .entry); corners = now (corners .entry) })) n) × (r ≡ 512 * n) ⌝ }
+    requires { ⌜ (bytesABlock * n ≤ length (now out)) × (vertices ≤ mostVertices) × (elements ≤ mostElements) × (n ≤ blocksOf vertices elements) ⌝ }
+    ensures { λ r. ⌜ Put (now (out .entry)) (now (out .exit)) 0 0 r 0 (listed (fileBlock (record { options = o; count = count; fields = fields; vertices = vertices; elements = elements; parameters = now (parameters .entry); points = now (points .entry); masks = now (masks .entry); corners = now (corners .entry) })) n) × (r ≡ bytesABlock * n) ⌝ }
 {
     let mut at = 0;
     let mut k = 0;
@@ -411,6 +424,14 @@ fn put_blocks(
     at
 }
 
+// How many blocks the file has.
+fn blocks_of(vertices: usize, elements: usize) -> usize
+    requires { ⌜ (vertices ≤ mostVertices) × (elements ≤ mostElements) ⌝ }
+    ensures { λ r. ⌜ (r ≡ blocksOf vertices elements) × (r ≤ 5) ⌝ }
+{
+    1 + vertex_blocks(vertices) + element_blocks(elements)
+}
+
 // Whether the counts are within the limits, the slices hold as many and the file has room.
 fn has_room(
     count: u32,
@@ -424,13 +445,13 @@ fn has_room(
 ) -> bool
     ensures { λ r. ⌜ r ≡ roomFor count vertices elements (record { parameters = parameters; points = points; masks = masks; corners = corners; out = out }) ⌝ }
 {
-    if 24 < vertices {
+    if MOST_VERTICES < vertices {
         return false;
     }
-    if 24 < elements {
+    if MOST_ELEMENTS < elements {
         return false;
     }
-    if 8 < count {
+    if FIELD_PLACES < count as usize {
         return false;
     }
     if parameters < 3 * vertices {
@@ -445,11 +466,11 @@ fn has_room(
     if corners < 4 * elements {
         return false;
     }
-    512 * (1 + (vertices + 8) / 9 + (elements + 30) / 31) <= out
+    BYTES_A_BLOCK * blocks_of(vertices, elements) <= out
 }
 
 // Writes a plot's block file to the front of `out`, and gives its length. Writes nothing and gives 0
-// for over 24 vertices, 24 elements or 8 fields, and where a slice is too short.
+// for vertices, elements or fields over their limits, and where a slice is too short.
 pub fn write_file(
     o: Options,
     count: u32,
@@ -473,7 +494,7 @@ pub fn write_file(
     if !has_room(count, vertices, elements, np, nq, nm, nc, room) {
         return 0;
     }
-    let n = 1 + vertex_blocks(vertices) + (elements + 30) / 31;
+    let n = blocks_of(vertices, elements);
     put_blocks(
         out,
         o,

@@ -13,9 +13,10 @@ use Rattle.mesh.specs.Complex.{Proper}
 use Rattle.mesh.specs.Element.{verticesOf}
 use Rattle.mesh.specs.Boundary.{boundaryNumber, boundaryOf}
 use Rattle.mesh.specs.Intake.{intake}
+use Rattle.mesh.specs.Measure.{measure, determinantOf}
 use Rattle.mesh.proofs.Laws.Link.Keys.{proper-fours}
-use Rattle.repair.specs.Mesh.{Mesh, Result, made, refused, measure, determinantOf}
-use Rattle.repair.specs.Flip.{live, flips, endNumber, flip}
+use Rattle.repair.specs.Mesh.{Mesh, Result, made, refused}
+use Rattle.repair.specs.Flip.{live, flips, endNumber, flipBy, flip}
 use Rattle.repair.specs.Step.{State, Call, Pass, meshOf, given, lengthsOf, resultOf, finish, numberOf, step, run}
 use Rattle.repair.specs.Wholeness.{IsBoundary}
 use Rattle.repair.proofs.Laws.Smooth.Scores.{AllNear}
@@ -46,7 +47,7 @@ end-of-flip m near P whole upright closed =
 
 -- the answer's number is that of the end
 answer-of-flip : (s : State) (m : Mesh) → CountOr17 (endNumber (m .surface) (ended m)) → CountOr17 (numberOf (finish s (flip m) .0))
-unfolding flip
+unfolding flip flipBy
 answer-of-flip s m h = go (eqb (endNumber (m .surface) (ended m)) 0)
   where
     flipped : Result

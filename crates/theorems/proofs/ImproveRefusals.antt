@@ -15,11 +15,12 @@ use Rattle.mesh.specs.Element.{pair, verticesOf}
 use Rattle.mesh.specs.Boundary.{boundaryNumber}
 use Rattle.mesh.specs.Feature.{linkOk}
 use Rattle.mesh.specs.Manifold.{nonmanifold}
+use Rattle.mesh.specs.Measure.{Measure, measure}
 use Rattle.mesh.proofs.Laws.Complex.Sets.{and-fst, and-snd}
 use Rattle.mesh.proofs.Laws.Complex.Steps.{step-keeps}
 use Rattle.mesh.proofs.Laws.Link.Keys.{proper-fours}
 use Rattle.mesh.proofs.Laws.Link.Together.{linkOk-collapsible}
-use Rattle.repair.specs.Mesh.{Mesh, Measure, Result, made, refused, measure, any, has}
+use Rattle.repair.specs.Mesh.{Mesh, Result, made, refused, any, has}
 use Rattle.repair.specs.Improve as def
 use Rattle.repair.specs.Improve.{stratumOf, stratumRule, imageOf, collapsed, go, rounds, placeOf, renumbered, endNumber}
 use Rattle.repair.specs.Step.{State, meshOf, given, lengthsOf, resultOf, finish, numberOf, step}
@@ -29,7 +30,7 @@ use Rattle.repair.proofs.Laws.Improve.Edges.{joins, listed-join}
 use Rattle.repair.proofs.Laws.Improve.Passes.{Tried, Joined, joined, joined-back, rounds-keep}
 use Rattle.repair.proofs.Laws.Improve.Uses.{uses, uses-renumber, renumber-step}
 use Rattle.repair.proofs.Laws.Improve.Intake.{intake-passed, passed-proper}
-use Rattle.repair.proofs.Laws.Improve.Keeps.{last}
+use Rattle.repair.proofs.Laws.Improve.Keeps.{lastBy}
 use Rattle.repair.proofs.Laws.Improve.Buffers.{mesh-parameters}
 use Rattle.theorems.specs.ImproveRefusals.{ImproveRefusals}
 use Rattle.theorems.proofs.Collapse.Oriented.{Oriented, oriented, oriented-fine}
@@ -91,15 +92,15 @@ pub data Ends : Result → Type 0 where
   counted : (count : ℕ) (m : Mesh) → Ends (made count m)
   nonmanifold-vertex : Ends (refused 22)
 
--- so ends `improve` on a mesh whose elements intake accepts
-pub improve-ends : (o : Options) (m : Mesh) → Distinct o (m .parameters) → Proper (size m) (map verticesOf (m .elements)) → boundaryNumber (m .elements) ≡ 0 → Ends (def.improve o m)
-unfolding def.improve
-improve-ends o m d P h =
-    let ts = last o m .elements in
+-- so ends `improve`, by any measure, on a mesh whose elements intake accepts
+pub improve-ends : (μ : Measure) (o : Options) (m : Mesh) → Distinct o (m .parameters) → Proper (size m) (map verticesOf (m .elements)) → boundaryNumber (m .elements) ≡ 0 → Ends (def.improveBy μ o m)
+unfolding def.improveBy
+improve-ends μ o m d P h =
+    let ts = lastBy μ o m .elements in
     let start : Held (size m) (m .elements) = record { proper = P; oriented = oriented (m .elements) (proper-fours (size m) (m .elements) P) h } in
-    let held : Held (size m) ts = rounds-held o m (measure (m .points)) d (o .passes) (record { elements = m .elements; replaced = [] }) start in
+    let held : Held (size m) ts = rounds-held o m μ d (o .passes) (record { elements = m .elements; replaced = [] }) start in
     elim (end-number (renumbered m ts) (renumbered-fine (size m) m ts held)) [
-      | inl e ↦ rw e (counted (length (last o m .replaced)) (renumbered m ts))
+      | inl e ↦ rw e (counted (length (lastBy μ o m .replaced)) (renumbered m ts))
       | inr e ↦ rw e nonmanifold-vertex
     ]
 
@@ -111,12 +112,12 @@ ends-number s (counted count m) = inl refl
 ends-number s nonmanifold-vertex = inr refl
 
 pub improve-refusals : ImproveRefusals
-unfolding step resultOf given
+unfolding step resultOf given def.improve
 improve-refusals c s p h a =
     let m = meshOf s in
     let q = intake-passed (given (lengthsOf c s) c s) h in
     let P : Proper (size m) (map verticesOf (m .elements)) = subst (λ n. Proper n (map verticesOf (m .elements))) (sym (mesh-parameters s)) (passed-proper (given (lengthsOf c s) c s) q) in
-    rw (h, p) (ends-number s (improve-ends (c .options) m distinct P (q .boundary)))
+    rw (h, p) (ends-number s (improve-ends (measure (m .points)) (c .options) m distinct P (q .boundary)))
   where
     distinct : Distinct (c .options) (meshOf s .parameters)
     distinct v w lv lw e = a .ranks v w (subst (λ k. v < k) (mesh-parameters s) lv) (subst (λ k. w < k) (mesh-parameters s) lw) e

@@ -24,7 +24,7 @@ use Rattle.mesh.specs.Sort.{insert, sort, unique, uniqueAfter}
 use Rattle.mesh.specs.Complex.{faces, alternating}
 use Rattle.mesh.specs.Group.{numbers}
 use Rattle.repair.specs.Mesh.{Mesh, made, allEdges}
-use Rattle.repair.specs.Flip.{live, emptied, besides, listedFaces, listedEdges, replace, tryFace, tryEdge, tryFaces, tryEdges, flips, sameTriples, endNumber, flip}
+use Rattle.repair.specs.Flip.{live, emptied, besides, listedFaces, listedEdges, replace, tryFace, tryEdge, tryFaces, tryEdges, flips, sameTriples, endNumber, flipBy, flip}
 
 abbrev at : Float → Float → Float → Point
 at x y z = record { x = x; y = y; z = z }
@@ -138,7 +138,7 @@ pub record Table : Type 0 where
 
 -- `flip` on the two elements
 flip-is : flip (mesh-of two-elements) ≡ made 1 (mesh-of three-elements)
-unfolding flip flips tryFaces tryFace tryEdges tryEdge replace live emptied besides listedFaces listedEdges sameTriples endNumber allEdges numbers lowest lowestFrom total totalFrom unique uniqueAfter insert sort sqrt determinant squaredEdges squaredEdge score add sub mul div neg lt eq le sortFirst sortLast keyOf parityOf leTriple allFaces singles boundaryOf keyNumber firstNumber boundaryNumber
+unfolding flip flipBy flips tryFaces tryFace tryEdges tryEdge replace live emptied besides listedFaces listedEdges sameTriples endNumber allEdges numbers lowest lowestFrom total totalFrom unique uniqueAfter insert sort sqrt determinant squaredEdges squaredEdge score add sub mul div neg lt eq le sortFirst sortLast keyOf parityOf leTriple allFaces singles boundaryOf keyNumber firstNumber boundaryNumber
 flip-is = refl
 
 pub table : Table

@@ -15,6 +15,7 @@ use geometry::bounds::Cells;
 use geometry::bounds::Options;
 use geometry::field::Field;
 use geometry::point::Point;
+use mesh::intake::Settings;
 use mesh::intake::Sizes;
 use mesh::intake::intake;
 use mesh::words::put_float;
@@ -158,20 +159,21 @@ fn number_of(
 ) -> u32 {
     let f = Field::Level(0.5);
     let fields = [f, f, f, f, f, f, f, f];
-    let o = options(t.faults);
-    let s = t.sizes;
+    let s = Settings {
+        sizes: t.sizes,
+        options: options(t.faults),
+        count: 0,
+    };
     let g = count_words(t.words, work);
     let h = count_floats(t.floats, floats);
     intake(
         s,
-        o,
-        0,
         fields,
         parameters,
         points,
-        masks,
+        masks.len(),
         elements,
-        surface,
+        surface.len(),
         &mut work[..g],
         &mut floats[..h],
     )

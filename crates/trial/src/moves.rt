@@ -12,6 +12,7 @@ use crate::show::float;
 use crate::show::number;
 use crate::show::text;
 use geometry::field::Field;
+use mesh::intake::Settings;
 use mesh::words::float as float_at;
 use repair::smooth::smooth;
 
@@ -63,10 +64,13 @@ fn call(
     let mut work = [7u32; 2208];
     let mut floats = [7.0; 80];
     let f = Field::Level(0.0625);
+    let s = Settings {
+        sizes: sizes(MESH),
+        options: options(1),
+        count: fields,
+    };
     let given = smooth(
-        sizes(MESH),
-        options(1),
-        fields,
+        s,
         [f, f, f, f, f, f, f, f],
         listed,
         regions,

@@ -11,6 +11,7 @@ use geometry::bounds::Cells;
 use geometry::bounds::Options;
 use geometry::field::Field;
 use geometry::point::Point;
+use mesh::intake::Settings;
 use mesh::intake::Sizes;
 use repair::answer::Answer;
 use repair::flip::flip;
@@ -62,12 +63,14 @@ pub(crate) fn called(
 ) -> Answer {
     let f = Field::Level(0.5);
     let fields = [f, f, f, f, f, f, f, f];
-    let o = options(passes);
+    let s = Settings {
+        sizes: z,
+        options: options(passes),
+        count: 0,
+    };
     match pass {
         0 => improve(
-            z,
-            o,
-            0,
+            s,
             fields,
             parameters,
             points,
@@ -78,9 +81,7 @@ pub(crate) fn called(
             floats,
         ),
         1 => smooth(
-            z,
-            o,
-            0,
+            s,
             fields,
             false,
             &[],
@@ -93,9 +94,7 @@ pub(crate) fn called(
             floats,
         ),
         _ => flip(
-            z,
-            o,
-            0,
+            s,
             fields,
             parameters,
             points,

@@ -41,7 +41,7 @@ fn link_bridge() {
     }
     let folder = std::env::var("EXPORT_DIR").map_or(root().join("target/staticlib"), PathBuf::from);
     println!("cargo:rustc-link-search=native={}", folder.display());
-    for name in ["export", "interface"] {
+    for name in ["export", "halmafir"] {
         println!("cargo:rerun-if-changed={}", folder.join(format!("lib{name}.a")).display());
         println!("cargo:rustc-link-lib=static={name}");
     }

@@ -46,6 +46,18 @@ fn around_edge(n: usize) -> Block {
     Block { points, tets }
 }
 
+/// Two fans about one axis with a vertex in its middle.
+fn fans(n: usize) -> Block {
+    let turn = |i: usize| std::f64::consts::TAU * i as f64 / n as f64;
+    let mut points = vec![[0., 0., 1.], [0., 0., 0.], [0., 0., -1.]];
+    points.extend((0..n).map(|i| [turn(i).cos(), turn(i).sin(), 0.]));
+    let pair = |i: usize| [3 + i, 3 + (i + 1) % n];
+    let upper = (0..n).map(|i| [1, pair(i)[0], pair(i)[1], 0]);
+    let lower = (0..n).map(|i| [2, pair(i)[0], pair(i)[1], 1]);
+    let tets = upper.chain(lower).collect();
+    Block { points, tets }
+}
+
 /// One vertex in all elements: the middle of a ball whose surface has `rings` rings of `sectors`.
 fn about_vertex(rings: usize, sectors: usize) -> Block {
     let place = |i: usize, j: usize| {
@@ -186,5 +198,41 @@ pub fn report(runs: u64) {
     line("about a vertex", &about_vertex(45, 90), 20, None, runs);
     for side in [2., 4.] {
         line(&format!("in few groups, {side} a side"), &distorted(13), 13, Some(side), runs);
+    }
+}
+
+/// One call of `improve` with one cell a direction, so that nearly every edge is short enough to be tried.
+fn slow_line(name: &str, block: &Block, rounds: u32) {
+    let (mesh, mut call) = (mesh(block), call(Pass::Improve, block, 1));
+    call.passes = rounds;
+    let (mut ours, mut theirs) = (mesh.clone(), mesh.clone());
+    let (time, answer) = port(&mut ours, &call);
+    let clock = Instant::now();
+    let judged = shell::run(&DOC01, &mut theirs, &call);
+    let original = clock.elapsed();
+    assert!(answer == judged && ours.same(&theirs), "the two sides differ");
+    println!(
+        "| {name} | {} | {rounds} | {answer:?} | {:.2} | {:.2} |",
+        block.tets.len(),
+        time.as_secs_f64(),
+        original.as_secs_f64()
+    );
+}
+
+/// The slowest calls known, in seconds.
+pub fn slowest() {
+    println!("| Mesh | Elements | Rounds | Answer | Port | Original |");
+    println!("|---|---|---|---|---|---|");
+    let classes = [
+        ("two fans about an axis", fans(4093)),
+        ("around an edge, short spokes", around_edge(4094)),
+        ("about a vertex", about_vertex(45, 90)),
+        ("distorted 13", distorted(13)),
+        ("pressed 13", pressed(13)),
+    ];
+    for (name, block) in &classes {
+        for rounds in [1, 16] {
+            slow_line(name, block, rounds);
+        }
     }
 }

@@ -1,6 +1,7 @@
 //! The port's link test and projection from the export crate.
 use crate::bridge::Value;
 use crate::bridge_surface::{flat, work};
+use crate::halmafir::{Numbers, Settings};
 use crate::original::{self, DOC01, Point};
 use crate::unit::{Shape, Unit, setting};
 
@@ -19,8 +20,7 @@ unsafe extern "C" {
     ) -> u32;
     /// 1 and the point, or 0; the fields are the active ones.
     fn h_project(
-        bounds: &[f64; 6],
-        count: u32, kinds: &[u32; 8], floats: &[f64; 32],
+        settings: &Settings, numbers: &Numbers,
         origin: &[f64; 3], candidate: &[f64; 3],
         point: &mut [f64; 3],
     ) -> u32;
@@ -55,16 +55,15 @@ fn port_link(a: usize, b: usize, tets: &[[usize; 4]], strata: &[u64]) -> u32 {
 }
 
 fn port_project(b: &[f64; 6], fields: &[Shape], active: &[usize], from: Point, to: Point) -> Value {
-    let mut kinds = [0; 8];
-    let mut floats = [0.; 32];
-    for (j, (kind, numbers)) in active.iter().map(|&k| fields[k]).enumerate() {
-        kinds[j] = kind;
-        floats[4 * j..4 * j + 4].copy_from_slice(&numbers);
+    let field_count = active.len() as u32;
+    let mut settings = Settings { cells: [1; 3], periodic: 0, passes: 0, field_count, kinds: [0; 8] };
+    let mut numbers = Numbers { bounds: *b, fields: [[0.; 4]; 8] };
+    for (j, &k) in active.iter().enumerate() {
+        (settings.kinds[j], numbers.fields[j]) = fields[k];
     }
     let mut p = [0.; 3];
-    let count = active.len() as u32;
     // Every reference is to a live array of the length declared.
-    let found = unsafe { h_project(b, count, &kinds, &floats, &from, &to, &mut p) };
+    let found = unsafe { h_project(&settings, &numbers, &from, &to, &mut p) };
     if found == 0 { Value::Number(0) } else { Value::Point(p) }
 }
 

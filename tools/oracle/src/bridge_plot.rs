@@ -1,4 +1,4 @@
-//! The port's report function from the interface crate's static library.
+//! The port's report function from the halmafir crate's static library.
 use crate::halmafir::halmafir_report;
 
 pub fn port(file: &[u8]) -> Vec<u8> {

@@ -1,4 +1,4 @@
-//! The port's boundary from the interface crate and its nonmanifold test from the export crate.
+//! The port's boundary from the halmafir crate and its nonmanifold test from the export crate.
 use crate::bridge::Value;
 use crate::halmafir::halmafir_boundary;
 use crate::original;

@@ -61,6 +61,8 @@ oracle agree COUNT [SEED [PASSES]]  COUNT lists of calls on the port's passes, a
                                     original stands for the port)
 oracle bench [RUNS]                 times of the port's passes, of intake and of the original
                                     (feature bridge-passes)
+oracle slowest                      the slowest calls of `improve` known, both sides once
+                                    (feature bridge-passes; minutes)
 oracle plot FILE                    what `plot` prints for a block file
 oracle plot-file SEED               write a generated block file to standard output
 oracle plots COUNT [SEED]           COUNT block files, whole and damaged, on the port's report function
@@ -107,9 +109,20 @@ fn bench(runs: u64) -> Result<(), String> {
     Ok(())
 }
 
+#[cfg(feature = "bridge-passes")]
+fn slowest() -> Result<(), String> {
+    bench::slowest();
+    Ok(())
+}
+
 #[cfg(not(feature = "bridge-passes"))]
 fn bench(_: u64) -> Result<(), String> {
     Err("bench needs the port: build with --features bridge-passes".to_string())
+}
+
+#[cfg(not(feature = "bridge-passes"))]
+fn slowest() -> Result<(), String> {
+    Err("slowest needs the port: build with --features bridge-passes".to_string())
 }
 
 #[cfg(feature = "bridge-plot")]
@@ -151,6 +164,7 @@ fn command(args: &[String]) -> Result<(), String> {
             agree::report(PASSES, number(rest.first(), 2000)?, number(rest.get(1), 1)?, &passes)
         }
         Some("bench") => bench(number(rest.first(), 5)?),
+        Some("slowest") => slowest(),
         Some("plot") => print_plot(rest.first().ok_or("plot: a file is needed")?),
         Some("plot-file") => write_plot(number(rest.first(), 1)?),
         Some("plots") => plots::report(PLOT, number(rest.first(), 2000)?, number(rest.get(1), 1)?),

@@ -6,6 +6,6 @@ pub mod Room
 pub mod Twice
 pub mod Different
 pub mod Area
-pub mod Upright
+pub mod Numbered
 pub mod Table
 pub mod Last

@@ -21,7 +21,9 @@ use Rattle.repair.proofs.Laws.Lengths.{LongEnough, long-enough}
 module _ (c : Call) (s : State) (work : List ℕ) (floats : List Float) (words : c .words ≡ length work) (many : c .floats ≡ length floats) where
   -- what intake sees of the buffers
   abbrev pub seen : Given
-  seen = givenOf (s .sizes) (c .options) (c .count) (c .fields) (s .parameters) (s .points) (s .masks) (s .elements) (s .surface) work floats
+  seen =
+      givenOf (record { sizes = s .sizes; options = c .options; count = c .count }) (c .fields) (s .parameters) (s .points) (length (s .masks)) (s .elements)
+      (length (s .surface)) work floats
 
   given-is : given (lengthsOf c s) c s ≡ seen
   unfolding given givenOf meshOf

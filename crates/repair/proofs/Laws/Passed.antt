@@ -19,12 +19,12 @@ use Rattle.mesh.specs.Intake.{wellNumbered}
 use Rattle.mesh.specs.List.{gone}
 use Rattle.mesh.specs.Star.{goneWord}
 use Rattle.mesh.specs.About as about
+use Rattle.mesh.specs.Measure.{measure}
 use Rattle.mesh.proofs.Laws.Complex.Sets.{split, clash, or-cases, and-fst, and-snd}
 use Rattle.mesh.proofs.Laws.List.Bad.{keep-few}
 use mathlib.Core.Logic.{inl, inr}
 use Rattle.mesh.proofs.Laws.About.Calls.{Copied, live-count, live-copied}
 use borrow.Author.Tests.{eq-eqb, eqb-true}
-use Rattle.repair.specs.Mesh.{measure}
 use Rattle.repair.specs.Improve as def
 use Rattle.repair.specs.Layout.{Room, Stands, Reads, Ready, slotsIn, liveIn, slotOk}
 use Rattle.repair.specs.Finish.{EndArea, EndBuffers, improveEnd}
@@ -126,7 +126,7 @@ module _ (o : Options) (s : State) (x : Index) (many : x .vertices ≡ s .sizes 
 
     -- the answer and the buffers are the definition's
     pub ended : (count : ℕ) → length (last .replaced) ≡ count + length (start .replaced) → improveEnd count (tets k (drop (x .area) w′)) s ≡ finish s (def.improve o (meshOf s))
-    unfolding improveEnd def.improve meshOf
+    unfolding improveEnd def.improve def.improveBy meshOf
     ended count h =
         let c : count ≡ length (last .replaced) = omega arith in
         ap₂ (λ u v. improveEnd u v s) c area-elements

@@ -16,7 +16,8 @@ use Rattle.mesh.specs.Complex.{mem}
 use Rattle.mesh.specs.Tests.{every}
 use Rattle.mesh.specs.Element.{pair, samePair}
 use Rattle.mesh.specs.Sets.{among}
-use Rattle.repair.specs.Mesh.{Mesh, Measure, measure}
+use Rattle.mesh.specs.Measure.{Measure, measure}
+use Rattle.repair.specs.Mesh.{Mesh}
 use Rattle.repair.specs.Improve.{State, stratumRule, activeGroup, pairOk, pairOff, pairsFor, about, collapsed, gains, mayGo, go, tryEdge, tryEdges}
 use Rattle.repair.specs.Layout.{Room, Stands, Reads, Ready, Same, Pairs, flagsAt, pairsAt, edgesAt, pairsOf, pairsIn, edgesOf, edgesIn}
 use Rattle.repair.specs.Replace.{Replaces}

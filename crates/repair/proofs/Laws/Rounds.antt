@@ -20,10 +20,11 @@ use Rattle.mesh.specs.Element.{verticesOf}
 use Rattle.mesh.specs.Intake.{wellNumbered}
 use Rattle.mesh.specs.List.{gone}
 use Rattle.mesh.specs.Star.{goneWord}
+use Rattle.mesh.specs.Measure.{Measure, measure}
 use Rattle.mesh.proofs.Laws.Bools.{and-intro}
 use Rattle.mesh.proofs.Laws.Complex.Sets.{clash, or-cases, and-fst, and-snd}
 use Rattle.mesh.proofs.Laws.Link.Members.{kept-elim, every-elim}
-use Rattle.repair.specs.Mesh.{Mesh, Measure, measure}
+use Rattle.repair.specs.Mesh.{Mesh}
 use Rattle.repair.specs.Improve.{State, listedEdges, tryEdge, tryEdges, round, rounds}
 use Rattle.repair.specs.Layout.{Stands, Reads, Ready, edgesAt, Same, edgesIn, slotsIn, liveIn, slotOk}
 use Rattle.repair.specs.Round.{below}

@@ -16,8 +16,9 @@ use Rattle.mesh.specs.Complex.{Proper}
 use Rattle.mesh.specs.Element.{verticesOf, keyOf}
 use Rattle.mesh.specs.Boundary.{allFaces, withKey}
 use Rattle.mesh.specs.Intake.{sizedPoint, boundsIn, optionsIn, intake}
+use Rattle.mesh.specs.Measure.{measure, scoreOf, lowestOf}
 use Rattle.mesh.proofs.Laws.Bools.{and-left, and-right}
-use Rattle.repair.specs.Mesh.{Mesh, made, measure, scoreOf, lowestOf}
+use Rattle.repair.specs.Mesh.{Mesh, made}
 use Rattle.repair.specs.Smooth
 use Rattle.repair.specs.Flip
 use Rattle.repair.specs.Step.{State, Call, meshOf, given, lengthsOf}

@@ -6,6 +6,7 @@ use Prim.Native.Nat.{ℕ, suc, _+_, _-_, _<_, _≤_}
 use native.Mathlib.Omega.{arith}
 use lib.Dec.{ltb}
 use borrow.Author.Tests.{ne-eqb, eq-eqb, le-ltb}
+use Rattle.report.specs.Format.{mostVertices, mostElements}
 use Rattle.report.specs.Bytes.{firstOf}
 use Rattle.report.specs.Block.{blockNumber, kindOf, countOf, endNumber, vertexBlocks, elementBlocks, blocksFrom, verticesIn, elementsIn, bodyNumber, fileNumber, kindsNumber, readingNumber}
 
@@ -35,14 +36,14 @@ unfolding blocksFrom
 blocks-end s v e left k m whole none is all = is ∙ (rw none at all)
 
 -- 10 for too many
-pub body-many : (s : List ℕ) (v e : ℕ) → (ltb 24 v || ltb 24 e) ≡ true → 10 ≡ bodyNumber s v e
+pub body-many : (s : List ℕ) (v e : ℕ) → (ltb mostVertices v || ltb mostElements e) ≡ true → 10 ≡ bodyNumber s v e
 unfolding bodyNumber
 body-many s v e h = rw h
 
 -- the blocks, where there are few
-pub body-few : (s : List ℕ) (v e n m : ℕ) → v ≤ 24 → e ≤ 24 → n ≡ vertexBlocks v + elementBlocks e → m ≡ blocksFrom s v e n 1 → m ≡ bodyNumber s v e
+pub body-few : (s : List ℕ) (v e n m : ℕ) → v ≤ mostVertices → e ≤ mostElements → n ≡ vertexBlocks v + elementBlocks e → m ≡ blocksFrom s v e n 1 → m ≡ bodyNumber s v e
 unfolding bodyNumber
-body-few s v e n m hv he is f = rw (le-ltb 24 v hv, le-ltb 24 e he) (f ∙ ap (λ (u : ℕ). blocksFrom s v e u 1) is)
+body-few s v e n m hv he is f = rw (le-ltb mostVertices v hv, le-ltb mostElements e he) (f ∙ ap (λ (u : ℕ). blocksFrom s v e u 1) is)
 
 -- the header's number, or that of what is behind it
 pub file-stop : (s : List ℕ) (m : ℕ) → m ≡ blockNumber s 0 1 1 → (m ≡ 0 → ⊥) → m ≡ fileNumber s

@@ -8,6 +8,7 @@ use lib.Dec.{leb}
 use borrow.Author.Tests.{le-leb, lt-leb}
 use Rattle.mesh.specs.Group.{numbers}
 use Rattle.mesh.specs.Tests.{every}
+use Rattle.report.specs.Format.{fieldPlaces, ballKind}
 use Rattle.report.specs.Block.{fieldsIn, kindAt, kindsNumber}
 
 module _ (p : ℕ → Bool) (n j : ℕ) (b : Bool) (all : every p (numbers j (n - j)) ≡ b) where
@@ -28,19 +29,19 @@ module _ (p : ℕ → Bool) (n j : ℕ) (b : Bool) (all : every p (numbers j (n 
 
 -- a known kind
 abbrev pub known : List ℕ → ℕ → Bool
-known s j = leb (kindAt s j) 2
+known s j = leb (kindAt s j) ballKind
 
 -- "over 8 fields"
 pub kinds-over : (s : List ℕ) (n : ℕ) → n ≡ fieldsIn s → 8 < n → 11 ≡ kindsNumber s
 unfolding kindsNumber
-kinds-over s n e h = let g : 8 < fieldsIn s = omega arith in rw (lt-leb (fieldsIn s) 8 g)
+kinds-over s n e h = let g : fieldPlaces < fieldsIn s = omega arith in rw (lt-leb (fieldsIn s) fieldPlaces g)
 
 -- "an unknown kind"
 pub kinds-unknown : (s : List ℕ) (n : ℕ) → n ≡ fieldsIn s → n ≤ 8 → every (known s) (numbers 0 n) ≡ false → 11 ≡ kindsNumber s
 unfolding kindsNumber
-kinds-unknown s n e h f = let g : fieldsIn s ≤ 8 = omega arith in rw (le-leb (fieldsIn s) 8 g, rw e at f)
+kinds-unknown s n e h f = let g : fieldsIn s ≤ fieldPlaces = omega arith in rw (le-leb (fieldsIn s) fieldPlaces g, rw e at f)
 
 -- all known
 pub kinds-known : (s : List ℕ) (n : ℕ) → n ≡ fieldsIn s → n ≤ 8 → every (known s) (numbers 0 n) ≡ true → 0 ≡ kindsNumber s
 unfolding kindsNumber
-kinds-known s n e h f = let g : fieldsIn s ≤ 8 = omega arith in rw (le-leb (fieldsIn s) 8 g, rw e at f)
+kinds-known s n e h f = let g : fieldsIn s ≤ fieldPlaces = omega arith in rw (le-leb (fieldsIn s) fieldPlaces g, rw e at f)

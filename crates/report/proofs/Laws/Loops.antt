@@ -8,9 +8,7 @@ use native.Mathlib.Numerals.{add-one}
 use native.Mathlib.Omega.{arith}
 use lib.ListN.{length, take, drop, getD, length-append, length-map}
 use lib.Seq.{take-suc, length-take-le}
-use Rattle.geometry.specs.declared.point.Point.{Point}
 use Rattle.geometry.specs.declared.field.Field.{Field}
-use Rattle.geometry.specs.Score.{score}
 use Rattle.mesh.specs.declared.element.Tet.{Tet}
 use Rattle.mesh.specs.Complex.{keep}
 use Rattle.mesh.specs.Element.{tet, tets}
@@ -73,7 +71,3 @@ inside-more {o} {m} {n} {at} {p} {q} g fields d j r h e w u =
     let counts : map g (take (j + 1) fields) ≡ map g front ++ (r ∷ []) = rw add-one (ap (map g) (take-suc fields j d h) ∙ (map-append g front (getD fields j d ∷ []) ∙ ap (λ (k : ℕ). map g front ++ (k ∷ [])) (sym e))) in
     let text : insideLines 0 (map g front) ++ insideLine j r ≡ insideLines 0 (map g (take (j + 1) fields)) = sym (ap (insideLines 0) counts ∙ (fields-last 0 (map g front) r ∙ ap (λ (k : ℕ). insideLines 0 (map g front) ++ insideLine k r) long)) in
     subst (λ (l : List ℕ). Written o n at q l) text (written-then {a = insideLines 0 (map g front)} {b = insideLine j r} w u)
-
--- the score of the same four points
-pub same-score : {a b c d a′ b′ c′ d′ : Point} → a ≡ a′ → b ≡ b′ → c ≡ c′ → d ≡ d′ → score a b c d ≡ score a′ b′ c′ d′
-same-score e f g h = cc

@@ -1,4 +1,4 @@
--- The three calls one after the other: what is printed after an answer, the room that a call leaves, and the counts of simplices.
+-- The three calls one after the other: what a run gives after an answer, the room that a call leaves, and the counts of simplices.
 -- Assumes nothing.
 use mathlib.Core.Path.{_≡_, refl, sym, ap, subst, _∙_}
 use mathlib.Core.Bool.{Bool, true, false, cond}
@@ -28,9 +28,10 @@ use Rattle.repair.specs.declared.answer.Answer.{Answer}
 use Rattle.repair.specs.declared.answer.Answer.the-variants.{Done, Refused}
 use Rattle.repair.specs.Mesh.{Result, made, refused}
 use Rattle.repair.specs.Step.{State, Call, Pass, sizesAfter, elementWords, committed, lengthsOf, given, meshOf, resultOf, finish, step}
-use Rattle.report.specs.Table.{refusedText}
-use Rattle.report.specs.Written.{Written, Roomy}
-use Rattle.report.specs.Report.{Setting, callOf, after, called, printed, fromFlip, fromSmooth, fromImprove}
+use Rattle.report.specs.declared.run.Ran.{Ran}
+use Rattle.report.specs.declared.run.Ran.the-variants.{Finished, Stopped}
+use Rattle.report.specs.Run.{Setting, callIn, after, called, runFlip, runSmooth, runPasses}
+use Rattle.report.specs.Written.{Roomy}
 
 -- ---- the counts of simplices
 
@@ -96,18 +97,12 @@ finish-room s (made k m) count z e =
     omega (arith, length-append (elementWords (m .elements)) (drop (length (elementWords (m .elements))) (s .elements)), words-long (m .elements))
 finish-room s (refused k) count z e = clash true refl (ap isRefused e)
 
-step-room : (c : Call) (s : State) (count : ℕ) (z : Sizes) → step c s .0 ≡ Done count z → 4 * step c s .1 .sizes .elements ≤ length (step c s .1 .elements)
+-- a call that gives a count leaves its elements in their buffer
+pub step-room : (c : Call) (s : State) (count : ℕ) (z : Sizes) → step c s .0 ≡ Done count z → 4 * step c s .1 .sizes .elements ≤ length (step c s .1 .elements)
 unfolding step
 step-room c s count z e =
     let k = intake (given (lengthsOf c s) c s) in
     finish-room s (cond (eqb k 0) (resultOf (c .pass) c (meshOf s)) (refused k)) count z e
-
--- a call that gives a count leaves its elements in their buffer
-pub done-room : (c : Call) (s t : State) (a : Answer) (count : ℕ) (z : Sizes) → _≡_ {A = Answer × State} (a, t) (step c s) → a ≡ Done count z
-    → 4 * t .sizes .elements ≤ length (t .elements)
-done-room c s t a count z e f =
-    subst (λ (y : State). 4 * y .sizes .elements ≤ length (y .elements)) (sym (ap (λ (y : Answer × State). y .1) e))
-    (step-room c s count z (sym (ap (λ (y : Answer × State). y .0) e) ∙ f))
 
 -- buffers keep their lengths, and so the room for the table
 pub roomy-kept : {n e w e′ w′ : ℕ} → Roomy n e w → e′ ≡ e → w′ ≡ w → Roomy n e′ w′
@@ -122,52 +117,55 @@ pub done-sizes : (z : Sizes) {p q : List Float} {m e t : List ℕ} {y : Sizes} {
 done-sizes z {p} {q} {m} {e} {t} {y} {a} {count} {x} h f =
     subst (λ (b : Answer). _≡_ {A = Answer × State} (b, record { parameters = p; points = q; masks = m; elements = e; surface = t; sizes = sizesAfter b z }) x) f h
 
--- a count hands on to what follows
-called-done : (c : Call) (next : ℕ → State → List ℕ) (s t : State) (a : Answer) (count : ℕ) (z : Sizes)
+-- the sizes that a refusal leaves
+pub refused-sizes : (z : Sizes) {p q : List Float} {m e t : List ℕ} {a : Answer} {k : ℕ} {x : Answer × State}
+    → _≡_ {A = Answer × State} (a, record { parameters = p; points = q; masks = m; elements = e; surface = t; sizes = sizesAfter a z }) x → a ≡ Refused k
+    → _≡_ {A = Answer × State} (Refused k, record { parameters = p; points = q; masks = m; elements = e; surface = t; sizes = z }) x
+refused-sizes z {p} {q} {m} {e} {t} {a} {k} {x} h f =
+    subst (λ (b : Answer). _≡_ {A = Answer × State} (b, record { parameters = p; points = q; masks = m; elements = e; surface = t; sizes = sizesAfter b z }) x) f h
+
+-- a count hands on to what comes next
+called-done : (c : Call) (next : ℕ → State → Ran × State) (s t : State) (a : Answer) (count : ℕ) (z : Sizes)
     → _≡_ {A = Answer × State} (a, t) (step c s) → a ≡ Done count z → next count t ≡ called c next s
 unfolding called
 called-done c next s t a count z e f = ap (λ (x : Answer). after x t next) (sym f) ∙ ap (λ (y : Answer × State). after (y .0) (y .1) next) e
 
 -- a refusal ends
-called-refused : (c : Call) (next : ℕ → State → List ℕ) (s t : State) (a : Answer) (k : ℕ)
-    → _≡_ {A = Answer × State} (a, t) (step c s) → a ≡ Refused k → refusedText k ≡ called c next s
+called-refused : (c : Call) (next : ℕ → State → Ran × State) (s t : State) (a : Answer) (k : ℕ)
+    → _≡_ {A = Answer × State} (a, t) (step c s) → a ≡ Refused k → _≡_ {A = Ran × State} (Stopped k (t .sizes), t) (called c next s)
 unfolding called
 called-refused c next s t a k e f = ap (λ (x : Answer). after x t next) (sym f) ∙ ap (λ (y : Answer × State). after (y .0) (y .1) next) e
 
-module _ (g : Setting) (s t : State) (a : Answer) {old new : List ℕ} {r : ℕ} where
-  -- an equal text
-  as-text : {u v : List ℕ} → u ≡ v → Written old new 0 r u → Written old new 0 r v
-  as-text e w = subst (λ (u : List ℕ). Written old new 0 r u) e w
-
+module _ (g : Setting) (s t : State) (a : Answer) where
   -- `flip`'s answer
-  pub flip-done : (collapsed moved count : ℕ) (z : Sizes) → _≡_ {A = Answer × State} (a, t) (step (callOf g Pass.flip) s) → a ≡ Done count z
-      → Written old new 0 r (printed g collapsed moved count t) → Written old new 0 r (fromFlip g collapsed moved s)
-  unfolding fromFlip
-  flip-done collapsed moved count z e f = as-text (called-done (callOf g Pass.flip) (λ n y. printed g collapsed moved n y) s t a count z e f)
+  pub flip-finished : (collapsed moved count : ℕ) (z : Sizes) → _≡_ {A = Answer × State} (a, t) (step (callIn g Pass.flip) s) → a ≡ Done count z
+      → _≡_ {A = Ran × State} (Finished collapsed moved count (t .sizes), t) (runFlip g collapsed moved s)
+  unfolding runFlip
+  flip-finished collapsed moved count z e f = called-done (callIn g Pass.flip) (λ n y. (Finished collapsed moved n (y .sizes), y)) s t a count z e f
 
-  pub flip-refused : (collapsed moved k : ℕ) → _≡_ {A = Answer × State} (a, t) (step (callOf g Pass.flip) s) → a ≡ Refused k
-      → Written old new 0 r (refusedText k) → Written old new 0 r (fromFlip g collapsed moved s)
-  unfolding fromFlip
-  flip-refused collapsed moved k e f = as-text (called-refused (callOf g Pass.flip) (λ n y. printed g collapsed moved n y) s t a k e f)
+  pub flip-stopped : (collapsed moved k : ℕ) → _≡_ {A = Answer × State} (a, t) (step (callIn g Pass.flip) s) → a ≡ Refused k
+      → _≡_ {A = Ran × State} (Stopped k (t .sizes), t) (runFlip g collapsed moved s)
+  unfolding runFlip
+  flip-stopped collapsed moved k e f = called-refused (callIn g Pass.flip) (λ n y. (Finished collapsed moved n (y .sizes), y)) s t a k e f
 
   -- `smooth`'s answer
-  pub smooth-done : (collapsed count : ℕ) (z : Sizes) → _≡_ {A = Answer × State} (a, t) (step (callOf g Pass.smooth) s) → a ≡ Done count z
-      → Written old new 0 r (fromFlip g collapsed count t) → Written old new 0 r (fromSmooth g collapsed s)
-  unfolding fromSmooth
-  smooth-done collapsed count z e f = as-text (called-done (callOf g Pass.smooth) (λ n y. fromFlip g collapsed n y) s t a count z e f)
+  pub smooth-done : {x : Ran × State} (collapsed count : ℕ) (z : Sizes) → _≡_ {A = Answer × State} (a, t) (step (callIn g Pass.smooth) s) → a ≡ Done count z
+      → x ≡ runFlip g collapsed count t → x ≡ runSmooth g collapsed s
+  unfolding runSmooth
+  smooth-done collapsed count z e f h = h ∙ called-done (callIn g Pass.smooth) (λ n y. runFlip g collapsed n y) s t a count z e f
 
-  pub smooth-refused : (collapsed k : ℕ) → _≡_ {A = Answer × State} (a, t) (step (callOf g Pass.smooth) s) → a ≡ Refused k
-      → Written old new 0 r (refusedText k) → Written old new 0 r (fromSmooth g collapsed s)
-  unfolding fromSmooth
-  smooth-refused collapsed k e f = as-text (called-refused (callOf g Pass.smooth) (λ n y. fromFlip g collapsed n y) s t a k e f)
+  pub smooth-stopped : (collapsed k : ℕ) → _≡_ {A = Answer × State} (a, t) (step (callIn g Pass.smooth) s) → a ≡ Refused k
+      → _≡_ {A = Ran × State} (Stopped k (t .sizes), t) (runSmooth g collapsed s)
+  unfolding runSmooth
+  smooth-stopped collapsed k e f = called-refused (callIn g Pass.smooth) (λ n y. runFlip g collapsed n y) s t a k e f
 
   -- `improve`'s answer
-  pub improve-done : (count : ℕ) (z : Sizes) → _≡_ {A = Answer × State} (a, t) (step (callOf g Pass.improve) s) → a ≡ Done count z
-      → Written old new 0 r (fromSmooth g count t) → Written old new 0 r (fromImprove g s)
-  unfolding fromImprove
-  improve-done count z e f = as-text (called-done (callOf g Pass.improve) (λ n y. fromSmooth g n y) s t a count z e f)
+  pub improve-done : {x : Ran × State} (count : ℕ) (z : Sizes) → _≡_ {A = Answer × State} (a, t) (step (callIn g Pass.improve) s) → a ≡ Done count z
+      → x ≡ runSmooth g count t → x ≡ runPasses g s
+  unfolding runPasses
+  improve-done count z e f h = h ∙ called-done (callIn g Pass.improve) (λ n y. runSmooth g n y) s t a count z e f
 
-  pub improve-refused : (k : ℕ) → _≡_ {A = Answer × State} (a, t) (step (callOf g Pass.improve) s) → a ≡ Refused k
-      → Written old new 0 r (refusedText k) → Written old new 0 r (fromImprove g s)
-  unfolding fromImprove
-  improve-refused k e f = as-text (called-refused (callOf g Pass.improve) (λ n y. fromSmooth g n y) s t a k e f)
+  pub improve-stopped : (k : ℕ) → _≡_ {A = Answer × State} (a, t) (step (callIn g Pass.improve) s) → a ≡ Refused k
+      → _≡_ {A = Ran × State} (Stopped k (t .sizes), t) (runPasses g s)
+  unfolding runPasses
+  improve-stopped k e f = called-refused (callIn g Pass.improve) (λ n y. runSmooth g n y) s t a k e f

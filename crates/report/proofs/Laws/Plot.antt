@@ -15,15 +15,19 @@ use Rattle.mesh.specs.declared.element.Tet.{Tet}
 use Rattle.mesh.specs.declared.boundary.Outcome.{Outcome}
 use Rattle.mesh.specs.Group.{numbers}
 use Rattle.mesh.specs.Tests.{every}
+use Rattle.mesh.specs.Words.{pointsOf}
 use Rattle.mesh.specs.Element.{tets}
 use Rattle.mesh.specs.Surface.{triplesOf, answerOf, surfaceWords, callFits, Call, boundaryCall}
 use Rattle.mesh.proofs.Laws.Bools.{and-left, and-intro}
-use Rattle.repair.specs.Step.{State, over}
+use Rattle.repair.specs.Step.{State, over, meshOf}
+use Rattle.report.specs.Format.{fieldPlaces, ballKind, mostElements}
 use Rattle.report.specs.Bytes.{listed}
 use Rattle.report.specs.Block.{verticesIn, elementsIn, fieldsIn, kindAt, vertexBlocks, parameterRow, pointRow, maskRow, elementRow, fileNumber, kindsNumber, headerOptions, headerFields, readingNumber, plotIn, refused, read, reading}
 use Rattle.report.specs.Table.{refusedText}
 use Rattle.report.specs.Written.{Written}
-use Rattle.report.specs.Report.{wordRoom, floatRoom, placed, blank, fromImprove, settingOf, textOf, report}
+use Rattle.report.specs.declared.run.Ran.{Ran}
+use Rattle.report.specs.Run.{Setting, runPasses, sizesLeft}
+use Rattle.report.specs.Report.{wordRoom, floatRoom, placed, blank, printed, runText, textOf, report}
 use Rattle.report.proofs.Laws.Listed.{length-listed}
 use Rattle.report.proofs.Laws.Limits.{first-zero}
 use Rattle.report.proofs.Laws.Prefix.{reading-front}
@@ -31,21 +35,21 @@ use Rattle.report.proofs.Laws.Prefix.{reading-front}
 -- ---- what a file that is read has
 
 -- at most 8 fields
-pub read-fields : (s : List ℕ) → readingNumber s ≡ 0 → fieldsIn s ≤ 8
+pub read-fields : (s : List ℕ) → readingNumber s ≡ 0 → fieldsIn s ≤ fieldPlaces
 unfolding readingNumber kindsNumber
-read-fields s h = go (leb (fieldsIn s) 8 && every (λ j. leb (kindAt s j) 2) (numbers 0 (fieldsIn s))) refl (first-zero (fileNumber s) (kindsNumber s) h .1)
+read-fields s h = go (leb (fieldsIn s) fieldPlaces && every (λ j. leb (kindAt s j) ballKind) (numbers 0 (fieldsIn s))) refl (first-zero (fileNumber s) (kindsNumber s) h .1)
   where
     no : _≡_ {A = ℕ} 11 0 → ⊥
     no z = omega arith
 
-    go : (b : Bool) → (leb (fieldsIn s) 8 && every (λ j. leb (kindAt s j) 2) (numbers 0 (fieldsIn s))) ≡ b → _≡_ {A = ℕ} (cond b 0 11) 0 → fieldsIn s ≤ 8
-    go true e k = leb-true (fieldsIn s) 8 (and-left (leb (fieldsIn s) 8) (every (λ j. leb (kindAt s j) 2) (numbers 0 (fieldsIn s))) e)
+    go : (b : Bool) → (leb (fieldsIn s) fieldPlaces && every (λ j. leb (kindAt s j) ballKind) (numbers 0 (fieldsIn s))) ≡ b → _≡_ {A = ℕ} (cond b 0 11) 0 → fieldsIn s ≤ fieldPlaces
+    go true e k = leb-true (fieldsIn s) fieldPlaces (and-left (leb (fieldsIn s) fieldPlaces) (every (λ j. leb (kindAt s j) ballKind) (numbers 0 (fieldsIn s))) e)
     go false e k = absurd (no k)
 
 -- ---- the buffers
 
 -- the surface, where the buffers have room
-pub surface-put : (n : ℕ) (els sf wk sf′ wk′ : List ℕ) (r : Outcome) → n ≤ 24 → 4 * n ≤ length els → 12 * n ≤ length sf → 36 * n ≤ length wk
+pub surface-put : (n : ℕ) (els sf wk sf′ wk′ : List ℕ) (r : Outcome) → n ≤ mostElements → 4 * n ≤ length els → 12 * n ≤ length sf → 36 * n ≤ length wk
     → _≡_ {A = Call} (record { answer = r; surface = sf′; work = wk′ }) (boundaryCall n els sf wk)
     → (r ≡ answerOf (tets n els)) × (sf′ ≡ over (surfaceWords (tets n els)) sf)
 unfolding boundaryCall callFits
@@ -83,17 +87,22 @@ plot-placed s v n b c p p₀ q q₀ m m₀ e e₀ t t₀ hv hn hb hp hq hm he hc
 
 -- ---- the whole
 
--- what is printed from `improve` on, with the box, the fields and the buffers of the plot
-pub plot-printed : (s : List ℕ) (o : Options) (fs : List Field) (n w f : ℕ) (x : State) {old new : List ℕ} {r : ℕ}
+-- the text of a run with the box, the fields and the buffers of the plot
+pub plot-printed : (s : List ℕ) (o : Options) (fs : List Field) (n w f : ℕ) (x : State) (ran : Ran) (p q : List Float) (m e t : List ℕ) {old new : List ℕ} {r : ℕ}
     → o ≡ headerOptions s → fs ≡ headerFields s → n ≡ fieldsIn s → w ≡ wordRoom → f ≡ floatRoom → x ≡ placed (plotIn s) blank
-    → Written old new 0 r (fromImprove (record { options = o; fields = fs; count = n; words = w; floats = f }) x)
-    → Written old new 0 r (fromImprove (settingOf (plotIn s)) (placed (plotIn s) blank))
-unfolding plotIn
-plot-printed s o fs n w f x {old} {new} {r} ho hf hn hw hl hx =
-    subst (λ (u : List ℕ). Written old new 0 r u) (λ i. fromImprove (record { options = ho i; fields = hf i; count = hn i; words = hw i; floats = hl i }) (hx i))
+    → _≡_ {A = Ran × State} (ran, record { parameters = p; points = q; masks = m; elements = e; surface = t; sizes = sizesLeft ran })
+    (runPasses (record { options = o; fields = fs; count = n; words = w; floats = f }) x)
+    → Written old new 0 r (printed (take n fs) ran (pointsOf (sizesLeft ran .vertices) q) (tets (sizesLeft ran .elements) e))
+    → Written old new 0 r (textOf (read (plotIn s)))
+unfolding plotIn meshOf
+plot-printed s o fs n w f x ran p q m e t {old} {new} {r} ho hf hn hw hl hx h =
+    let g : Setting = record { options = o; fields = fs; count = n; words = w; floats = f } in
+    let a : runText g (ran, record { parameters = p; points = q; masks = m; elements = e; surface = t; sizes = sizesLeft ran }) ≡ runText g (runPasses g x) = ap (runText g) h in
+    subst (λ (u : List ℕ). Written old new 0 r u)
+    (a ∙ (λ i. runText (record { options = ho i; fields = hf i; count = hn i; words = hw i; floats = hl i }) (runPasses (record { options = ho i; fields = hf i; count = hn i; words = hw i; floats = hl i }) (hx i))))
 
 -- a file that is read
-pub report-read : (s : List ℕ) → readingNumber s ≡ 0 → fromImprove (settingOf (plotIn s)) (placed (plotIn s) blank) ≡ report s
+pub report-read : (s : List ℕ) → readingNumber s ≡ 0 → textOf (read (plotIn s)) ≡ report s
 unfolding report reading
 report-read s h = let e : reading s ≡ read (plotIn s) = rw (eq-eqb (readingNumber s) 0 h) in sym (ap textOf e)
 

@@ -13,6 +13,7 @@ use Rattle.mesh.proofs.Laws.Bools.{split}
 use Rattle.mesh.proofs.Laws.Intake.Chains.{neither-left, neither-right}
 use Rattle.mesh.specs.Group.{numbers}
 use Rattle.mesh.specs.Tests.{every}
+use Rattle.report.specs.Format.{wordsABlock, bytesABlock, verticesABlock, elementsABlock, boundsPlace, cellsPlace, periodicPlace, passesPlace, countPlace, firstField, fieldPlaces, fieldSize, ballKind, mostVertices, mostElements}
 use Rattle.report.specs.Bytes.{wordIn, floatIn, pointFrom, sumOf, listed, firstOf}
 use Rattle.report.specs.Block.{addsToZero, blockNumber, kindOf, countOf, vertexBlocks, elementBlocks, blocksFrom, verticesIn, elementsIn, bodyNumber, fileNumber, headerOptions, fieldsIn, kindAt, fieldFrom, fieldAt, kindsNumber, vertexPlace, parameterRow, pointRow, maskRow, elementPlace, elementRow, plotIn, readingNumber, reading}
 use Rattle.report.specs.Block.{read}
@@ -53,27 +54,27 @@ module _ (s : List ℕ) (n : ℕ) where
       ]
 
   -- the block k lies in the front
-  pub block-front : (k kind count : ℕ) → 512 * (k + 1) ≤ n → blockNumber (take n s) k kind count ≡ blockNumber s k kind count
+  pub block-front : (k kind count : ℕ) → bytesABlock * (k + 1) ≤ n → blockNumber (take n s) k kind count ≡ blockNumber s k kind count
   unfolding blockNumber addsToZero
   block-front k kind count h =
-      rw (length-front (512 * (k + 1)) h, sum-front (128 * k) 128 (omega arith), word-front (128 * k) (omega arith), word-front (128 * k + 1) (omega arith), word-front (128 * k + 2) (omega arith))
+      rw (length-front (bytesABlock * (k + 1)) h, sum-front (wordsABlock * k) wordsABlock (omega arith), word-front (wordsABlock * k) (omega arith), word-front (wordsABlock * k + 1) (omega arith), word-front (wordsABlock * k + 2) (omega arith))
 
   -- blocks that lie in the front with a byte behind them
-  pub blocks-front : (v e left k : ℕ) → 512 * (k + left) < n → blocksFrom (take n s) v e left k ≡ blocksFrom s v e left k
+  pub blocks-front : (v e left k : ℕ) → bytesABlock * (k + left) < n → blocksFrom (take n s) v e left k ≡ blocksFrom s v e left k
   unfolding blocksFrom
-  blocks-front v e zero k h = rw (front-length (512 * k) (omega arith))
+  blocks-front v e zero k h = rw (front-length (bytesABlock * k) (omega arith))
   blocks-front v e (suc left) k h =
       ap₂ firstOf (block-front k (kindOf v k) (countOf v e k) (omega arith)) (blocks-front v e left (k + 1) (omega arith))
 
   -- the blocks behind the header
   pub body-front : (v e : ℕ) → 2561 ≤ n → bodyNumber (take n s) v e ≡ bodyNumber s v e
   unfolding bodyNumber
-  body-front v e h = elim (split (ltb 24 v || ltb 24 e)) [ inl t ↦ rw t | inr f ↦ rw f (blocks-front v e (vertexBlocks v + elementBlocks e) 1 (few v e f)) ]
+  body-front v e h = elim (split (ltb mostVertices v || ltb mostElements e)) [ inl t ↦ rw t | inr f ↦ rw f (blocks-front v e (vertexBlocks v + elementBlocks e) 1 (few v e f)) ]
     where
-      few : (v e : ℕ) → (ltb 24 v || ltb 24 e) ≡ false → 512 * (1 + ((v + 8) / 9 + (e + 30) / 31)) < n
+      few : (v e : ℕ) → (ltb mostVertices v || ltb mostElements e) ≡ false → bytesABlock * (1 + ((v + (verticesABlock - 1)) / verticesABlock + (e + (elementsABlock - 1)) / elementsABlock)) < n
       few v e f =
-          let a = ltb-false 24 v (neither-left (ltb 24 v) (ltb 24 e) f) in
-          let b = ltb-false 24 e (neither-right (ltb 24 v) (ltb 24 e) f) in
+          let a = ltb-false mostVertices v (neither-left (ltb mostVertices v) (ltb mostElements e) f) in
+          let b = ltb-false mostElements e (neither-right (ltb mostVertices v) (ltb mostElements e) f) in
           omega arith
 
   -- the numbers of the blocks
@@ -111,63 +112,63 @@ module _ (s : List ℕ) (n : ℕ) (enough : 2561 ≤ n) where
   unfolding headerOptions
   options-front =
       rw (
-        float-front 5 (omega arith),
-        float-front 7 (omega arith),
-        float-front 9 (omega arith),
-        float-front 11 (omega arith),
-        float-front 13 (omega arith),
-        float-front 15 (omega arith),
-        word-front s n 17 (omega arith),
-        word-front s n 18 (omega arith),
-        word-front s n 19 (omega arith),
-        word-front s n 20 (omega arith),
-        word-front s n 21 (omega arith),
+        float-front boundsPlace (omega arith),
+        float-front (boundsPlace + 2) (omega arith),
+        float-front (boundsPlace + 4) (omega arith),
+        float-front (boundsPlace + 6) (omega arith),
+        float-front (boundsPlace + 8) (omega arith),
+        float-front (boundsPlace + 10) (omega arith),
+        word-front s n cellsPlace (omega arith),
+        word-front s n (cellsPlace + 1) (omega arith),
+        word-front s n (cellsPlace + 2) (omega arith),
+        word-front s n periodicPlace (omega arith),
+        word-front s n passesPlace (omega arith),
       )
 
-  field-front : (j : ℕ) → j < 8 → fieldAt (take n s) j ≡ fieldAt s j
+  field-front : (j : ℕ) → j < fieldPlaces → fieldAt (take n s) j ≡ fieldAt s j
   unfolding fieldAt fieldFrom
   field-front j h =
-      rw (word-front s n 22 (omega arith), word-front s n (23 + 9 * j) (omega arith), float-front (24 + 9 * j) (omega arith), point-front (24 + 9 * j) (omega arith), float-front (24 + 9 * j + 6) (omega arith))
+      rw (word-front s n countPlace (omega arith), word-front s n (firstField + fieldSize * j) (omega arith), float-front (firstField + 1 + fieldSize * j) (omega arith), point-front (firstField + 1 + fieldSize * j) (omega arith), float-front (firstField + 1 + fieldSize * j + 6) (omega arith))
 
   kinds-front : kindsNumber (take n s) ≡ kindsNumber s
   unfolding kindsNumber
-  kinds-front = rw (word-front s n 22 (omega arith)) (elim (split (leb (fieldsIn s) 8)) [
-    | inl t ↦ rw t (ap (λ (b : Bool). cond b 0 11) (every-same (λ j. leb (kindAt (take n s) j) 2) (λ j. leb (kindAt s j) 2) 0 (fieldsIn s) (λ j h. kind j (leb-true (fieldsIn s) 8 t) h)))
+  kinds-front = rw (word-front s n countPlace (omega arith)) (elim (split (leb (fieldsIn s) fieldPlaces)) [
+    | inl t ↦ rw t (ap (λ (b : Bool). cond b 0 11) (every-same (λ j. leb (kindAt (take n s) j) ballKind) (λ j. leb (kindAt s j) ballKind) 0 (fieldsIn s) (λ j h. kind j (leb-true (fieldsIn s) fieldPlaces t) h)))
     | inr f ↦ rw f
   ])
     where
-      kind : (j : ℕ) → fieldsIn s ≤ 8 → j < 0 + fieldsIn s → leb (kindAt (take n s) j) 2 ≡ leb (kindAt s j) 2
-      kind j h l = rw (word-front s n (23 + 9 * j) (omega arith))
+      kind : (j : ℕ) → fieldsIn s ≤ fieldPlaces → j < 0 + fieldsIn s → leb (kindAt (take n s) j) ballKind ≡ leb (kindAt s j) ballKind
+      kind j h l = rw (word-front s n (firstField + fieldSize * j) (omega arith))
 
-  vertex-in : (v : ℕ) → v < 24 → vertexPlace v < 500
+  vertex-in : (v : ℕ) → v < mostVertices → vertexPlace v < 500
   unfolding vertexPlace
   vertex-in v h = omega arith
 
-  parameter-front : (v : ℕ) → v < 24 → parameterRow (take n s) v ≡ parameterRow s v
+  parameter-front : (v : ℕ) → v < mostVertices → parameterRow (take n s) v ≡ parameterRow s v
   unfolding parameterRow
   parameter-front v h = let p = vertex-in v h in
       rw (float-front (vertexPlace v) (omega arith), float-front (vertexPlace v + 2) (omega arith), float-front (vertexPlace v + 4) (omega arith))
 
-  point-row-front : (v : ℕ) → v < 24 → pointRow (take n s) v ≡ pointRow s v
+  point-row-front : (v : ℕ) → v < mostVertices → pointRow (take n s) v ≡ pointRow s v
   unfolding pointRow
   point-row-front v h = let p = vertex-in v h in
       rw (float-front (vertexPlace v + 6) (omega arith), float-front (vertexPlace v + 8) (omega arith), float-front (vertexPlace v + 10) (omega arith))
 
-  mask-front : (v : ℕ) → v < 24 → maskRow (take n s) v ≡ maskRow s v
+  mask-front : (v : ℕ) → v < mostVertices → maskRow (take n s) v ≡ maskRow s v
   unfolding maskRow
   mask-front v h = let p = vertex-in v h in rw (word-front s n (vertexPlace v + 12) (omega arith))
 
-  element-in : (b e : ℕ) → b ≤ 4 → e < 24 → elementPlace b e < 630
+  element-in : (b e : ℕ) → b ≤ 4 → e < mostElements → elementPlace b e < 630
   unfolding elementPlace
   element-in b e h g = omega arith
 
-  element-front : (b e : ℕ) → b ≤ 4 → e < 24 → elementRow (take n s) b e ≡ elementRow s b e
+  element-front : (b e : ℕ) → b ≤ 4 → e < mostElements → elementRow (take n s) b e ≡ elementRow s b e
   unfolding elementRow
   element-front b e h g = let p = element-in b e h g in
       rw (word-front s n (elementPlace b e) (omega arith), word-front s n (elementPlace b e + 1) (omega arith), word-front s n (elementPlace b e + 2) (omega arith), word-front s n (elementPlace b e + 3) (omega arith))
 
   -- the plot, where the counts are within the limits
-  plot-front : verticesIn s ≤ 24 → elementsIn s ≤ 24 → plotIn (take n s) ≡ plotIn s
+  plot-front : verticesIn s ≤ mostVertices → elementsIn s ≤ mostElements → plotIn (take n s) ≡ plotIn s
   unfolding plotIn
   plot-front v e =
       let count = word-front s n 3 (omega arith) in
@@ -176,7 +177,7 @@ module _ (s : List ℕ) (n : ℕ) (enough : 2561 ≤ n) where
         count,
         counted,
         options-front,
-        word-front s n 22 (omega arith),
+        word-front s n countPlace (omega arith),
         field-front 0 (omega arith),
         field-front 1 (omega arith),
         field-front 2 (omega arith),

@@ -15,15 +15,17 @@ use Rattle.mesh.specs.Surface.{surfaceWords}
 use Rattle.mesh.specs.Intake.{tooMany, tooShort}
 use Rattle.mesh.proofs.Laws.Boundary.Whole.{words-count, triples-few}
 use Rattle.repair.specs.Step.{Pass, over, lengthsOf}
+use Rattle.report.specs.Format.{mostVertices, mostElements}
 use Rattle.report.specs.Bytes.{listed}
 use Rattle.report.specs.Block.{verticesIn, elementsIn, vertexBlocks, parameterRow, pointRow, maskRow, elementRow, readingNumber, plotIn}
-use Rattle.report.specs.Report.{pointRoom, maskRoom, elementRoom, surfaceRoom, callOf, settingOf, placed, blank}
+use Rattle.report.specs.Run.{callIn}
+use Rattle.report.specs.Report.{pointRoom, maskRoom, elementRoom, surfaceRoom, wordRoom, floatRoom, settingOf, placed, blank}
 use Rattle.report.proofs.Laws.Listed.{length-listed}
 use Rattle.report.proofs.Laws.Limits.{read-few}
 
--- at most 24 vertices and 24 elements in buffers of these lengths
-enough : (z : Sizes) (l : Lengths) → z .vertices ≤ 24 → z .elements ≤ 24 → z .triples ≤ 4 * z .elements → 72 ≤ l .parameters → 72 ≤ l .points → 24 ≤ l .masks
-    → 288 ≤ l .elements → 432 ≤ l .surface → 7936 ≤ l .words → 384 ≤ l .floats → (tooMany z || tooShort z l) ≡ false
+-- at most as many vertices and elements as `plot` takes, in buffers of these lengths
+enough : (z : Sizes) (l : Lengths) → z .vertices ≤ mostVertices → z .elements ≤ mostElements → z .triples ≤ 4 * z .elements → pointRoom ≤ l .parameters → pointRoom ≤ l .points → maskRoom ≤ l .masks
+    → elementRoom ≤ l .elements → surfaceRoom ≤ l .surface → wordRoom ≤ l .words → floatRoom ≤ l .floats → (tooMany z || tooShort z l) ≡ false
 enough z l v e t p q m s f w x =
     rw (
       le-ltb 4096 (z .vertices) (omega arith),
@@ -49,7 +51,7 @@ rows-long row w n k d h g = over-long (listed row n) k d (omega (arith, length-l
 
 -- where the passes begin, no count is over its limit and no slice too short
 pub first-room : (s : List ℕ) (pass : Pass) → readingNumber s ≡ 0
-    → (tooMany (placed (plotIn s) blank .sizes) || tooShort (placed (plotIn s) blank .sizes) (lengthsOf (callOf (settingOf (plotIn s)) pass) (placed (plotIn s) blank))) ≡ false
+    → (tooMany (placed (plotIn s) blank .sizes) || tooShort (placed (plotIn s) blank .sizes) (lengthsOf (callIn (settingOf (plotIn s)) pass) (placed (plotIn s) blank))) ≡ false
 unfolding placed plotIn blank parameterRow pointRow maskRow elementRow
 first-room s pass h =
     let few = read-few s h in
@@ -59,7 +61,7 @@ first-room s pass h =
     let els = over (listed row (elementsIn s)) (zeroWords elementRoom) in
     let t = triples-few (elementsIn s) els in
     let c = words-count (tets (elementsIn s) els) in
-    enough (placed (plotIn s) blank .sizes) (lengthsOf (callOf (settingOf (plotIn s)) pass) (placed (plotIn s) blank)) v e t
+    enough (placed (plotIn s) blank .sizes) (lengthsOf (callIn (settingOf (plotIn s)) pass) (placed (plotIn s) blank)) v e t
     (rows-long (parameterRow s) 3 (verticesIn s) pointRoom zero64 (λ j. refl) (omega arith))
     (rows-long (pointRow s) 3 (verticesIn s) pointRoom zero64 (λ j. refl) (omega arith))
     (rows-long (maskRow s) 1 (verticesIn s) maskRoom 0 (λ j. refl) (omega arith))

@@ -21,11 +21,12 @@ use Rattle.mesh.specs.Complex.{star, Nodup, Proper, SameCount}
 use Rattle.mesh.specs.Tests.{every}
 use Rattle.mesh.specs.Element.{tet, verticesOf, cornersOf}
 use Rattle.mesh.specs.Boundary.{boundaryNumber}
+use Rattle.mesh.specs.Measure.{Measure, measure, determinantOf, scoreOf, lowestOf}
 use Rattle.mesh.proofs.Laws.Complex.Sets.{and-fst, and-snd}
 use Rattle.mesh.proofs.Laws.Link.Simplices.{rising, rising-nodup}
 use Rattle.mesh.proofs.Laws.Link.Keys.{proper-fours}
 use Rattle.mesh.proofs.Laws.Link.Closed.{AtMostTwo, boundary-two}
-use Rattle.repair.specs.Mesh.{Mesh, Measure, measure, any, determinantOf, scoreOf, lowestOf}
+use Rattle.repair.specs.Mesh.{Mesh, any}
 use Rattle.repair.specs.Wholeness.{Exact}
 use Rattle.repair.specs.Flip.{State, slotHas, numbersWith, elementsAt, emptied, besides, oriented, accepted, replace, listedFaces, listedEdges, tryFace, tryFaces, tryEdge, tryEdges, flips}
 use Rattle.repair.proofs.Laws.Smooth.Scores.{AllNear, score-exact, lowest-one, lowest-under}

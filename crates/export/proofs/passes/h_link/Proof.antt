@@ -5,7 +5,7 @@ use mathlib.Core.List.{List}
 use Rattle.geometry.specs.declared.bounds.Bounds.{Bounds}
 use Rattle.geometry.specs.declared.point.Point.{Point}
 use Rattle.mesh.specs.Manifold.{Tested}
-use Rattle.interface.specs.Arrays.{boundsOf}
+use Rattle.halmafir.specs.Arrays.{boundsOf}
 use Rattle.export.specs.Answers.{asNumber}
 use Rattle.mesh.specs.LinkRows.{stratumOf, linkOkIn}
 use lib.ListN.{length}

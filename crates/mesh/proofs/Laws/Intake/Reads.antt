@@ -1,5 +1,5 @@
 -- Elements and points by index: what `tet_at` and `point_at` read is the element or the point with that number. Assumes nothing.
-use mathlib.Core.Path.{_≡_, refl, ap, _∙_}
+use mathlib.Core.Path.{_≡_, refl, sym, ap, _∙_}
 use mathlib.Core.List.{List}
 use Prim.Native.Nat.{ℕ, zero, suc, _+_, _*_, _/_, _≤_, _<_}
 use native.Mathlib.Nat.{not-suc-le-zero, le-of-suc-le-suc}
@@ -10,7 +10,7 @@ use lib.Seq.{getD-drop}
 use Rattle.geometry.specs.declared.point.Point.{Point}
 use Rattle.geometry.specs.Float.{zero64}
 use Rattle.mesh.specs.declared.element.Tet.{Tet}
-use Rattle.mesh.specs.Words.{wordAt, floatAt, pointsOf}
+use Rattle.mesh.specs.Words.{wordAt, floatAt, zeroPoint, pointAt, pointsOf}
 use Rattle.mesh.specs.Element.{tet, tets}
 use Rattle.mesh.specs.Intake.{tetAt, pointIn}
 
@@ -72,3 +72,10 @@ unfolding pointsOf pointIn
 points-at zero s v z h = absurd (not-suc-le-zero h)
 points-at (suc n) s zero z h = refl
 points-at (suc n) s (suc v) z h = points-at n (drop 3 s) v z (le-of-suc-le-suc h) ∙ point-drop s v
+
+-- the point of the vertex v as `vertex_point` reads it
+pub point-of : (nv : ℕ) (fs : List Float) (v : ℕ) → v < nv → pointIn fs v ≡ pointAt (pointsOf nv fs) v
+point-of nv fs v h = sym (points-at nv fs v zeroPoint h)
+
+pub no-point : (nv : ℕ) (fs : List Float) (v : ℕ) → nv ≤ v → zeroPoint ≡ pointAt (pointsOf nv fs) v
+no-point nv fs v h = sym (List·getD-eq-default (pointsOf nv fs) zeroPoint (omega (arith, length-points nv fs)))

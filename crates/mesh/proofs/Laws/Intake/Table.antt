@@ -15,6 +15,7 @@ use Rattle.geometry.specs.declared.bounds.Options.{Options}
 use Rattle.geometry.specs.declared.field.Field.{Field}
 use Rattle.mesh.specs.declared.element.Tet.{Tet}
 use Rattle.mesh.specs.declared.intake.Sizes.{Sizes}
+use Rattle.mesh.specs.declared.intake.Settings.{Settings}
 use Rattle.mesh.specs.declared.intake.Lengths.{Lengths}
 use Rattle.mesh.specs.Tests.{every}
 use Rattle.mesh.specs.Words.{zeroWords, pointsOf}
@@ -158,69 +159,69 @@ zeros-again k s t h e f =
 -- ---- the function
 
 -- the lengths of slices, where the work is w words long
-abbrev pub lengths : List Float → List Float → List ℕ → List ℕ → List ℕ → ℕ → List Float → Lengths
+abbrev pub lengths : List Float → List Float → ℕ → List ℕ → ℕ → ℕ → List Float → Lengths
 lengths parameters points masks elements surface w floats = record {
   parameters = length parameters;
   points = length points;
-  masks = length masks;
+  masks = masks;
   elements = length elements;
-  surface = length surface;
+  surface = surface;
   words = w;
   floats = length floats;
 }
 
-module _ (s : Sizes) (o : Options) (count : ℕ) (fields : List Field) (parameters points : List Float) (masks elements surface work : List ℕ) (floats : List Float)
-    (w k : ℕ) (long : w ≡ length work) (e : k ≡ settingsNumber s (lengths parameters points masks elements surface w floats) o count fields) where
-  settled : k ≡ settingsNumber s (lengths parameters points masks elements surface (length work) floats) o count fields
-  settled = e ∙ ap (λ (u : ℕ). settingsNumber s (lengths parameters points masks elements surface u floats) o count fields) long
+module _ (s : Settings) (fields : List Field) (parameters points : List Float) (masks : ℕ) (elements : List ℕ) (surface : ℕ) (work : List ℕ) (floats : List Float)
+    (w k : ℕ) (long : w ≡ length work) (e : k ≡ settingsNumber (s .sizes) (lengths parameters points masks elements surface w floats) (s .options) (s .count) fields) where
+  settled : k ≡ settingsNumber (s .sizes) (lengths parameters points masks elements surface (length work) floats) (s .options) (s .count) fields
+  settled = e ∙ ap (λ (u : ℕ). settingsNumber (s .sizes) (lengths parameters points masks elements surface u floats) (s .options) (s .count) fields) long
 
   -- 10 or 11
-  pub numbers-stop : (k ≡ 0 → ⊥) → k ≡ intakeNumbers (givenOf s o count fields parameters points masks elements surface work floats)
+  pub numbers-stop : (k ≡ 0 → ⊥) → k ≡ intakeNumbers (givenOf s fields parameters points masks elements surface work floats)
   unfolding givenOf
-  numbers-stop h = settled ∙ sym (numbers-are (givenOf s o count fields parameters points masks elements surface work floats) ∙ go (settingsNumber s (lengths parameters points masks elements surface (length work) floats) o count fields) (λ z. h (settled ∙ z)))
+  numbers-stop h = settled ∙ sym (numbers-are (givenOf s fields parameters points masks elements surface work floats) ∙ go (settingsNumber (s .sizes) (lengths parameters points masks elements surface (length work) floats) (s .options) (s .count) fields) (λ z. h (settled ∙ z)))
     where
-      go : (j : ℕ) → (j ≡ 0 → ⊥) → cond (eqb j 0) (meshNumber (s .vertices) (o .bounds) (pointsOf (s .vertices) parameters) (pointsOf (s .vertices) points) (tets (s .elements) elements)) j ≡ j
+      go : (j : ℕ) → (j ≡ 0 → ⊥) → cond (eqb j 0) (meshNumber (s .sizes .vertices) (s .options .bounds) (pointsOf (s .sizes .vertices) parameters) (pointsOf (s .sizes .vertices) points) (tets (s .sizes .elements) elements)) j ≡ j
       go j f = rw (ne-eqb j 0 f)
 
   -- 12 to 15, or 0
-  pub numbers-go : k ≡ 0 → (m : ℕ) → m ≡ meshNumber (s .vertices) (o .bounds) (pointsOf (s .vertices) parameters) (pointsOf (s .vertices) points) (tets (s .elements) elements)
-      → m ≡ intakeNumbers (givenOf s o count fields parameters points masks elements surface work floats)
+  pub numbers-go : k ≡ 0 → (m : ℕ) → m ≡ meshNumber (s .sizes .vertices) (s .options .bounds) (pointsOf (s .sizes .vertices) parameters) (pointsOf (s .sizes .vertices) points) (tets (s .sizes .elements) elements)
+      → m ≡ intakeNumbers (givenOf s fields parameters points masks elements surface work floats)
   unfolding givenOf
-  numbers-go h m f = f ∙ sym (numbers-are (givenOf s o count fields parameters points masks elements surface work floats) ∙ go (settingsNumber s (lengths parameters points masks elements surface (length work) floats) o count fields) (sym settled ∙ h))
+  numbers-go h m f = f ∙ sym (numbers-are (givenOf s fields parameters points masks elements surface work floats) ∙ go (settingsNumber (s .sizes) (lengths parameters points masks elements surface (length work) floats) (s .options) (s .count) fields) (sym settled ∙ h))
     where
-      go : (j : ℕ) → j ≡ 0 → cond (eqb j 0) (meshNumber (s .vertices) (o .bounds) (pointsOf (s .vertices) parameters) (pointsOf (s .vertices) points) (tets (s .elements) elements)) j
-          ≡ meshNumber (s .vertices) (o .bounds) (pointsOf (s .vertices) parameters) (pointsOf (s .vertices) points) (tets (s .elements) elements)
+      go : (j : ℕ) → j ≡ 0 → cond (eqb j 0) (meshNumber (s .sizes .vertices) (s .options .bounds) (pointsOf (s .sizes .vertices) parameters) (pointsOf (s .sizes .vertices) points) (tets (s .sizes .elements) elements)) j
+          ≡ meshNumber (s .sizes .vertices) (s .options .bounds) (pointsOf (s .sizes .vertices) parameters) (pointsOf (s .sizes .vertices) points) (tets (s .sizes .elements) elements)
       go j z = rw (eq-eqb j 0 z)
 
   -- what the tests of 10 leave for those behind them
-  pub room-left : k ≡ 0 → (s .elements ≤ 16384) × (8 * s .elements ≤ w)
+  pub room-left : k ≡ 0 → (s .sizes .elements ≤ 16384) × (8 * s .sizes .elements ≤ w)
   room-left h =
-      let r = room-for s (lengths parameters points masks elements surface w floats) o count fields (sym e ∙ h) in
+      let r = room-for (s .sizes) (lengths parameters points masks elements surface w floats) (s .options) (s .count) fields (sym e ∙ h) in
       (r .0, omega (arith, r .2))
 
 -- ---- the boundary comes last
 
-module _ (s : Sizes) (o : Options) (count : ℕ) (fields : List Field) (parameters points : List Float) (masks elements surface work : List ℕ) (floats : List Float)
-    (k : ℕ) (e : k ≡ intakeNumbers (givenOf s o count fields parameters points masks elements surface work floats)) where
-  pub intake-stop : (k ≡ 0 → ⊥) → k ≡ intake (givenOf s o count fields parameters points masks elements surface work floats)
-  intake-stop h = sym (intake-is (givenOf s o count fields parameters points masks elements surface work floats) ∙ go (intakeNumbers (givenOf s o count fields parameters points masks elements surface work floats)) (boundaryNumber (givenOf s o count fields parameters points masks elements surface work floats .elements)) (sym e))
+module _ (s : Settings) (fields : List Field) (parameters points : List Float) (masks : ℕ) (elements : List ℕ) (surface : ℕ) (work : List ℕ) (floats : List Float)
+    (k : ℕ) (e : k ≡ intakeNumbers (givenOf s fields parameters points masks elements surface work floats)) where
+  pub intake-stop : (k ≡ 0 → ⊥) → k ≡ intake (givenOf s fields parameters points masks elements surface work floats)
+  intake-stop h = sym (intake-is (givenOf s fields parameters points masks elements surface work floats) ∙ go (intakeNumbers (givenOf s fields parameters points masks elements surface work floats)) (boundaryNumber (givenOf s fields parameters points masks elements surface work floats .elements)) (sym e))
     where
       go : (j x : ℕ) → j ≡ k → cond (eqb j 0) x j ≡ k
       go j x q = rw (ne-eqb j 0 (λ z. h (sym q ∙ z))) q
 
-  pub intake-go : k ≡ 0 → (m : ℕ) → m ≡ boundaryNumber (tets (s .elements) elements) → m ≡ intake (givenOf s o count fields parameters points masks elements surface work floats)
+  pub intake-go : k ≡ 0 → (m : ℕ) → m ≡ boundaryNumber (tets (s .sizes .elements) elements) → m ≡ intake (givenOf s fields parameters points masks elements surface work floats)
   unfolding givenOf
-  intake-go h m f = f ∙ sym (intake-is (givenOf s o count fields parameters points masks elements surface work floats) ∙ go (intakeNumbers (givenOf s o count fields parameters points masks elements surface work floats)) (boundaryNumber (tets (s .elements) elements)) (sym e ∙ h))
+  intake-go h m f = f ∙ sym (intake-is (givenOf s fields parameters points masks elements surface work floats) ∙ go (intakeNumbers (givenOf s fields parameters points masks elements surface work floats)) (boundaryNumber (tets (s .sizes .elements) elements)) (sym e ∙ h))
     where
       go : (j x : ℕ) → j ≡ 0 → cond (eqb j 0) x j ≡ x
       go j x q = rw (eq-eqb j 0 q)
 
   -- what 10 leaves for the boundary
-  pub boundary-room : k ≡ 0 → (s .elements ≤ 16384) × (4 * s .elements ≤ length elements) × (36 * s .elements ≤ length work)
+  pub boundary-room : k ≡ 0 → (s .sizes .elements ≤ 16384) × (4 * s .sizes .elements ≤ length elements) × (36 * s .sizes .elements ≤ length work)
   unfolding givenOf
   boundary-room h =
       let l = lengths parameters points masks elements surface (length work) floats in
-      let r = room-for s l o count fields (go (settingsNumber s l o count fields) (meshNumber (s .vertices) (o .bounds) (pointsOf (s .vertices) parameters) (pointsOf (s .vertices) points) (tets (s .elements) elements)) (sym (numbers-are (givenOf s o count fields parameters points masks elements surface work floats)) ∙ sym e ∙ h)) in
+      let r = room-for (s .sizes) l (s .options) (s .count) fields (go (settingsNumber (s .sizes) l (s .options) (s .count) fields) (meshNumber (s .sizes .vertices) (s .options .bounds) (pointsOf (s .sizes .vertices) parameters) (pointsOf (s .sizes .vertices) points) (tets (s .sizes .elements) elements)) (sym (numbers-are (givenOf s fields parameters points masks elements surface work floats)) ∙ sym e ∙ h)) in
       (r .0, omega (arith, r .1), omega (arith, r .2))
     where
       go : (j x : ℕ) → cond (eqb j 0) x j ≡ 0 → j ≡ 0

@@ -11,16 +11,15 @@ use Rattle.mesh.specs.Sort.{sort}
 use Rattle.mesh.specs.Rows.{rows, flat, leRow, sortedArea, run, runLength}
 use Rattle.mesh.specs.Element.{tets}
 use Rattle.mesh.specs.Group.{runs, sameFirst}
-use Rattle.mesh.specs.Manifold.{filled, KeptBelow}
-use Rattle.mesh.specs.Euler.{spread, triangleRows, triangleRowAt}
+use Rattle.mesh.specs.Manifold.{KeptBelow}
+use Rattle.mesh.specs.Faces.{SortedKeys}
 use Rattle.mesh.specs.List.{stacked}
 use Rattle.mesh.specs.LinkRows.{faceRows, faceIn, aloneAbout, runFaces, facesAlone, aloneFaces, rowsOfFaces}
 use Rattle.mesh.proofs.Laws.Rows.{Shape, none, more, rows-flat, length-rows, rows-at}
-use Rattle.mesh.proofs.Laws.Manifold.Fill.{filled-rows, flat-append}
+use Rattle.mesh.proofs.Laws.Manifold.Fill.{flat-append}
 use Rattle.mesh.proofs.Laws.Manifold.Growth.{kept-both}
 use Rattle.mesh.proofs.Laws.Manifold.RowRuns.{run-turn, run-first}
 use Rattle.mesh.proofs.Laws.Manifold.Steps.{rows-below, kept-less, sort-kept, sort-from-rows, run-is, run-few}
-use Rattle.mesh.proofs.Laws.Euler.Areas.{triangle-rows, triangles-kept}
 use Rattle.mesh.proofs.Laws.List.Stack.{stack-start, stack-kept, stack-turn}
 
 -- ---- runs of keys
@@ -172,57 +171,44 @@ module _ (a b n : ℕ) (s₀ : List ℕ) where
 
 -- ---- the whole
 
-module _ (a b n : ℕ) (s₀ s₁ s₂ s₃ s₄ : List ℕ) (room : 88 * n ≤ length s₀) (e₁ : s₁ ≡ filled (triangleRowAt s₀) 3 (4 * n) (4 * n) s₀) where
-  kept₁ : KeptBelow (4 * n) s₀ s₁
-  kept₁ = triangles-kept n s₀ (omega arith) s₁ e₁
+module _ (a b n : ℕ) (s₀ s₂ s₃ s₄ : List ℕ) (room : 88 * n ≤ length s₀) (k : SortedKeys n s₀ s₂) where
+  kept₂ : KeptBelow (4 * n) s₀ s₂
+  kept₂ = k .kept
 
-  pub keys-room : 4 * n ≤ length s₁
-  keys-room = omega (arith, kept₁ .long)
+  pub sorted-room : 88 * n ≤ length s₂
+  sorted-room = omega (arith, kept₂ .long)
 
-  module _ (e₂ : s₂ ≡ take (4 * n) s₁ ++ sortedArea (4 * n) 3 (drop (4 * n) s₁)) where
-    kept₂ : KeptBelow (4 * n) s₀ s₂
-    kept₂ = kept-both (4 * n) s₀ s₁ s₂ kept₁ (sort-kept (4 * n) (4 * n) 3 s₁ s₂ keys-room e₂)
+  module _ (c : ℕ) (number : c ≡ length (facesAlone a b (runs (sameFirst 3) (rows 3 (4 * n) (drop (4 * n) s₂))))) (few : c ≤ 4 * n)
+      (e₃ : s₃ ≡ stacked (map (λ f. flat (faceRows a b f)) (facesAlone a b (runs (sameFirst 3) (rows 3 (4 * n) (drop (4 * n) s₂))))) 9 (16 * n) s₂) where
+    abbrev fs : List Triple
+    fs = facesAlone a b (runs (sameFirst 3) (rows 3 (4 * n) (drop (4 * n) s₂)))
 
-    pub sorted-room : 88 * n ≤ length s₂
-    sorted-room = omega (arith, kept₂ .long)
+    kept₃ : KeptBelow (16 * n) s₂ s₃
+    kept₃ = subst (KeptBelow (16 * n) s₂) (sym e₃) (stack-kept (length fs) (shape-nine a b fs) (16 * n) s₂ (omega (arith, kept₂ .long)) (omega (arith, kept₂ .long)))
 
-    sorted-keys : rows 3 (4 * n) (drop (4 * n) s₂) ≡ sort leRow (spread triangleRows (tets n s₀))
-    unfolding triangleRowAt
-    sorted-keys =
-        sort-from-rows (4 * n) (4 * n) 3 s₁ s₂ keys-room e₂ (omega arith) (omega (arith, kept₁ .long))
-        ∙ ap (sort leRow) (filled-rows (triangleRowAt s₀) 3 (λ i. refl) (4 * n) s₀ (omega arith) (4 * n) s₁ e₁ ∙ triangle-rows s₀ n)
+    pub rows-room : 16 * n ≤ length s₃
+    rows-room = omega (arith, kept₃ .long, kept₂ .long)
 
-    module _ (c : ℕ) (number : c ≡ length (facesAlone a b (runs (sameFirst 3) (rows 3 (4 * n) (drop (4 * n) s₂))))) (few : c ≤ 4 * n)
-        (e₃ : s₃ ≡ stacked (map (λ f. flat (faceRows a b f)) (facesAlone a b (runs (sameFirst 3) (rows 3 (4 * n) (drop (4 * n) s₂))))) 9 (16 * n) s₂) where
-      abbrev fs : List Triple
-      fs = facesAlone a b (runs (sameFirst 3) (rows 3 (4 * n) (drop (4 * n) s₂)))
+    faces-are : fs ≡ aloneFaces a b (tets n s₀)
+    unfolding aloneFaces
+    faces-are = ap (λ (l : List (List ℕ)). facesAlone a b (runs (sameFirst 3) l)) (k .sorted)
 
-      kept₃ : KeptBelow (16 * n) s₂ s₃
-      kept₃ = subst (KeptBelow (16 * n) s₂) (sym e₃) (stack-kept (length fs) (shape-nine a b fs) (16 * n) s₂ (omega (arith, kept₂ .long)) (omega (arith, kept₂ .long)))
+    face-rows : rows 3 (3 * c) (drop (16 * n) s₃) ≡ rowsOfFaces a b (aloneFaces a b (tets n s₀))
+    unfolding stacked
+    face-rows =
+        let gs = map (λ f. flat (faceRows a b f)) fs in
+        let d = drop (16 * n + 9 * length (map (λ f. flat (faceRows a b f)) fs)) s₂ in
+        ap₂ (λ (u : ℕ) (l : List ℕ). rows 3 (3 * u) l) number
+        (ap (drop (16 * n)) e₃ ∙ drop-at (take (16 * n) s₂) (flat gs ++ d) (16 * n) (length-take-le (16 * n) s₂ (omega (arith, kept₂ .long)))
+        ∙ ap (λ (l : List ℕ). l ++ d) (flat-nine a b fs))
+        ∙ rows-flat (shape-three a b fs) d
+        ∙ ap (rowsOfFaces a b) faces-are
 
-      pub rows-room : 16 * n ≤ length s₃
-      rows-room = omega (arith, kept₃ .long, kept₂ .long)
+    module _ (e₄ : s₄ ≡ take (16 * n) s₃ ++ sortedArea (3 * c) 3 (drop (16 * n) s₃)) where
+      pub boundary-rows : rows 3 (3 * c) (drop (16 * n) s₄) ≡ sort leRow (rowsOfFaces a b (aloneFaces a b (tets n s₀)))
+      boundary-rows = sort-from-rows (16 * n) (3 * c) 3 s₃ s₄ rows-room e₄ (omega arith) (omega (arith, kept₃ .long, kept₂ .long)) ∙ ap (sort leRow) face-rows
 
-      faces-are : fs ≡ aloneFaces a b (tets n s₀)
-      unfolding aloneFaces
-      faces-are = ap (λ (l : List (List ℕ)). facesAlone a b (runs (sameFirst 3) l)) sorted-keys
-
-      face-rows : rows 3 (3 * c) (drop (16 * n) s₃) ≡ rowsOfFaces a b (aloneFaces a b (tets n s₀))
-      unfolding stacked
-      face-rows =
-          let gs = map (λ f. flat (faceRows a b f)) fs in
-          let d = drop (16 * n + 9 * length (map (λ f. flat (faceRows a b f)) fs)) s₂ in
-          ap₂ (λ (u : ℕ) (l : List ℕ). rows 3 (3 * u) l) number
-          (ap (drop (16 * n)) e₃ ∙ drop-at (take (16 * n) s₂) (flat gs ++ d) (16 * n) (length-take-le (16 * n) s₂ (omega (arith, kept₂ .long)))
-          ∙ ap (λ (l : List ℕ). l ++ d) (flat-nine a b fs))
-          ∙ rows-flat (shape-three a b fs) d
-          ∙ ap (rowsOfFaces a b) faces-are
-
-      module _ (e₄ : s₄ ≡ take (16 * n) s₃ ++ sortedArea (3 * c) 3 (drop (16 * n) s₃)) where
-        pub boundary-rows : rows 3 (3 * c) (drop (16 * n) s₄) ≡ sort leRow (rowsOfFaces a b (aloneFaces a b (tets n s₀)))
-        boundary-rows = sort-from-rows (16 * n) (3 * c) 3 s₃ s₄ rows-room e₄ (omega arith) (omega (arith, kept₃ .long, kept₂ .long)) ∙ ap (sort leRow) face-rows
-
-        pub boundary-kept : KeptBelow (4 * n) s₀ s₄
-        boundary-kept =
-            kept-both (4 * n) s₀ s₂ s₄ kept₂
-            (kept-both (4 * n) s₂ s₃ s₄ (kept-less (omega arith) kept₃) (kept-less (omega arith) (sort-kept (16 * n) (3 * c) 3 s₃ s₄ rows-room e₄)))
+      pub boundary-kept : KeptBelow (4 * n) s₀ s₄
+      boundary-kept =
+          kept-both (4 * n) s₀ s₂ s₄ kept₂
+          (kept-both (4 * n) s₂ s₃ s₄ (kept-less (omega arith) kept₃) (kept-less (omega arith) (sort-kept (16 * n) (3 * c) 3 s₃ s₄ rows-room e₄)))

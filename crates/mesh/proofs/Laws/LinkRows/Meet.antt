@@ -61,6 +61,15 @@ mark-2 a b τ e = go (mem a τ) (mem b τ) refl refl e
     go false true h k e = (h, k)
     go false false h k e = absurd (omega arith)
 
+-- ---- runs of sorted rows
+
+-- the runs pass where every row does, with the rows that have its key
+pub runs-rows : (k : ℕ) (l : List (List ℕ)) → every (meetRun k) (runs (sameFirst k) (sort leRow l)) ≡ every (λ r. meetRun k (keep (sameFirst k r) l)) l
+runs-rows k l =
+    every-run k (meetRun k) l
+    ∙ every-same (λ r. meetRun k (keep (sameFirst k r) (sort leRow l))) (λ r. meetRun k (keep (sameFirst k r) l)) l
+    (λ r. ap₂ (λ (p : Bool) (q : Bool). p || not q) (marked-kept k 3 r l) (ap₂ (λ (p q : Bool). p && q) (marked-kept k 1 r l) (marked-kept k 2 r l)))
+
 -- ---- rows of simplices
 
 -- σ is a set of vertices of a simplex of the list with a or b, without its end of the edge
@@ -233,8 +242,4 @@ module _ (k : ℕ) {pad : List ℕ → List ℕ} (P : Pads k pad) (a b : ℕ) (�
 
     -- the runs of the sorted rows pass exactly where the links meet
     pub runs-meet : every (meetRun k) (runs (sameFirst k) (sort leRow l)) ≡ linksMeet a b τs
-    runs-meet =
-        every-run k (meetRun k) l
-        ∙ every-same (λ r. meetRun k (keep (sameFirst k r) (sort leRow l))) passes l
-        (λ r. ap₂ (λ (p : Bool) (q : Bool). p || not q) (marked-kept k 3 r l) (ap₂ (λ (p q : Bool). p && q) (marked-kept k 1 r l) (marked-kept k 2 r l)))
-        ∙ same (λ h. complete (forth h)) (λ h. back (sound h))
+    runs-meet = runs-rows k l ∙ same (λ h. complete (forth h)) (λ h. back (sound h))

@@ -11,34 +11,27 @@ use lib.ListN.{length, take, length-append, List·getD-eq-default}
 use lib.Seq.{paste, take-all, take-suc}
 use borrow.Author.Tests.{eq-eqb, ne-eqb}
 use Rattle.geometry.specs.declared.point.Point.{Point}
-use Rattle.geometry.specs.Score.{score, bad}
 use Rattle.mesh.specs.declared.element.Tet.{Tet}
-use Rattle.mesh.specs.Words.{zeroPoint, pointAt, pointsOf}
 use Rattle.mesh.specs.Complex.{keep}
+use Rattle.mesh.specs.Measure.{measure, isBad}
 use Rattle.mesh.specs.Element.{tet, tets, verticesOf}
-use Rattle.mesh.specs.Intake.{tetAt, pointIn}
+use Rattle.mesh.specs.Intake.{tetAt}
 use Rattle.mesh.specs.Manifold.{KeptBelow}
 use Rattle.mesh.proofs.Laws.Bools.{split}
 use Rattle.mesh.proofs.Laws.Rows.{Shape, none, more}
-use Rattle.mesh.proofs.Laws.Intake.Reads.{length-tets, tets-at, length-points, points-at}
+use Rattle.mesh.proofs.Laws.Intake.Reads.{length-tets, tets-at}
 use Rattle.mesh.proofs.Laws.Euler.Areas.{tet-kept}
 use Rattle.mesh.specs.List.{badIn, stacked}
 use Rattle.mesh.proofs.Laws.List.Stack.{stack-start, stack-kept, stack-turn}
 
--- ---- points and scores
-
-pub point-of : (nv : ℕ) (fs : List Float) (v : ℕ) → v < nv → pointIn fs v ≡ pointAt (pointsOf nv fs) v
-point-of nv fs v h = sym (points-at nv fs v zeroPoint h)
-
-pub no-point : (nv : ℕ) (fs : List Float) (v : ℕ) → nv ≤ v → zeroPoint ≡ pointAt (pointsOf nv fs) v
-no-point nv fs v h = sym (List·getD-eq-default (pointsOf nv fs) zeroPoint (omega (arith, length-points nv fs)))
+-- ---- scores
 
 pub bad-gone : (ps : List Point) (t : Tet) → t .a ≡ 4294967295 → false ≡ badIn ps t
 unfolding badIn
 bad-gone ps t e = sym (rw (eq-eqb (t .a) 4294967295 e) refl)
 
 pub bad-is : (ps : List Point) (t : Tet) (r : Bool) → (t .a ≡ 4294967295 → ⊥)
-    → r ≡ bad (score (pointAt ps (t .a)) (pointAt ps (t .b)) (pointAt ps (t .c)) (pointAt ps (t .d))) → r ≡ badIn ps t
+    → r ≡ isBad (measure ps) t → r ≡ badIn ps t
 unfolding badIn
 bad-is ps t r n e = e ∙ sym (rw (ne-eqb (t .a) 4294967295 n) refl)
 

@@ -1,7 +1,7 @@
 -- Rows put one by one behind the first words of an area. Assumes nothing.
 use mathlib.Core.Path.{_≡_, refl, sym, ap, ap₂, _∙_}
 use mathlib.Core.List.{List, [], _∷_, _++_, append-assoc, append-nil}
-use Prim.Native.Nat.{ℕ, suc, _+_, _*_, _≤_}
+use Prim.Native.Nat.{ℕ, suc, _+_, _-_, _*_, _≤_}
 use native.Mathlib.Omega.{arith}
 use lib.ListN.{length, take, drop, length-append, length-drop, take-append-drop}
 use lib.Seq.{length-take-le, take-all, take-at, drop-at, drop-drop, paste}
@@ -34,6 +34,21 @@ module _ {w : ℕ} {rs : List (List ℕ)} (k : ℕ) (shape : Shape w k rs) (b : 
         let d = drop (b + w * length rs) s₀ in
         omega (arith, length-append (take b s₀) (flat rs ++ d), length-append (flat rs) d, length-append (take b s₀) (flat rs), front, length-take-le b s₀ inside, length-drop (b + w * length rs) s₀);
   }
+
+  -- the words behind the rows stand as they did
+  pub stack-rest : (j : ℕ) → b + w * k ≤ j → drop j (stacked rs w b s₀) ≡ drop j s₀
+  unfolding stacked
+  stack-rest j h =
+      let i = b + w * length rs in
+      let d = drop i s₀ in
+      let m : w * length rs ≡ w * k = ap (λ (u : ℕ). w * u) (many shape) in
+      let e : i + (j - i) ≡ j = omega arith in
+      let x = take b s₀ ++ (flat rs ++ d) in
+      ap (λ (u : ℕ). drop u x) (sym e)
+      ∙ sym (drop-drop (j - i) i x)
+      ∙ ap (drop (j - i)) (ap (drop i) (sym (append-assoc (take b s₀) (flat rs) d)) ∙ drop-at (take b s₀ ++ flat rs) d i front)
+      ∙ drop-drop (j - i) i s₀
+      ∙ ap (λ (u : ℕ). drop u s₀) e
 
   -- one more row
   pub stack-turn : (s s′ r : List ℕ) → s ≡ stacked rs w b s₀ → length r ≡ w → s′ ≡ paste s (b + w * k) r w → s′ ≡ stacked (rs ++ (r ∷ [])) w b s₀

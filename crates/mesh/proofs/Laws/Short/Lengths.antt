@@ -19,7 +19,7 @@ use Rattle.geometry.proofs.Laws.Score.Quality.{sqrt-signed}
 use Rattle.geometry.proofs.Laws.Word.Order.{order-lt}
 use Rattle.mesh.specs.declared.element.Pair.{Pair}
 use Rattle.mesh.specs.Words.{pointAt}
-use Rattle.mesh.specs.Short.{lengthOf}
+use Rattle.mesh.specs.Measure.{lengthOf}
 
 -- ---- the root
 

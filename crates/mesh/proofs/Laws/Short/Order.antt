@@ -24,7 +24,8 @@ use Rattle.mesh.proofs.Laws.Group.Ranks.{le-two, eq-two}
 use Rattle.mesh.proofs.Laws.Group.Images.{unique-map}
 use Rattle.mesh.proofs.Laws.List.Push.{every-kept}
 use Rattle.mesh.proofs.Laws.List.Meaning.{pairRow, le-pair, eq-pair}
-use Rattle.mesh.specs.Short.{lengthOf, short, leEdge, edgeRow, shortRows}
+use Rattle.mesh.specs.Measure.{lengthOf}
+use Rattle.mesh.specs.Short.{short, leEdge, edgeRow, shortRows}
 use Rattle.mesh.proofs.Laws.Short.Lengths.{bits-lt}
 
 -- ---- a sort of images, where the tests agree on elements that pass p

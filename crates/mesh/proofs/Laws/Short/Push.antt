@@ -15,7 +15,8 @@ use Rattle.mesh.specs.List.{Pushed}
 use Rattle.mesh.proofs.Laws.Rows.{Shape, none, more}
 use Rattle.mesh.proofs.Laws.Boundary.Same.{length-keep, length-map}
 use Rattle.mesh.proofs.Laws.List.Push.{push-start, push-one, keep-append}
-use Rattle.mesh.specs.Short.{lengthOf, short, edgeRow, shortRows}
+use Rattle.mesh.specs.Measure.{lengthOf}
+use Rattle.mesh.specs.Short.{short, edgeRow, shortRows}
 
 module _ (ps : List Point) (limit : Float) where
   shape-map : (es : List Pair) → Shape 4 (length (map (edgeRow ps) es)) (map (edgeRow ps) es)

@@ -21,16 +21,16 @@ same-length-2 c = search needs
 
 returns : tie.Need-returns
 returns c =
-    let a = (c .before .before .before .before .before .before .before .before .before .before .before .before .before .before .before .before .before .args) in
+    let a = (c .before .before .before .before .before .before .before .before .before .before .before .before .before .before .before .args) in
     let n = (c .before .before .before .before .before .before .before .intake-numbers) in
-    (intake-stop (a .sizes) (a .o) (a .count) (a .fields) (a .parameters .now) (a .points .now) (a .masks .now) (a .elements .now) (a .surface .now) (a .work .now) (a .floats .now) (n .result) (n .ensures .0) (c .if1 .taken), (n .ensures .1, c .before .before .before .clear-floats .ensures))
+    (intake-stop (a .s) (a .fields) (a .parameters .now) (a .points .now) (a .masks) (a .elements .now) (a .surface) (a .work .now) (a .floats .now) (n .result) (n .ensures .0) (c .if1 .taken), (n .ensures .1, c .before .before .before .clear-floats .ensures))
 
 boundary-number-requires : tie.Need-boundary-number-requires
 boundary-number-requires c κs =
-    let a = (c .before .before .before .before .before .before .before .before .before .before .before .before .before .before .before .before .before .before .args) in
+    let a = (c .before .before .before .before .before .before .before .before .before .before .before .before .before .before .before .before .args) in
     let n = (c .before .before .before .before .before .before .before .before .intake-numbers) in
-    let l = n .kept .1 .1 .1 .1 .1 .1 .1 .1 .1 .0 in
-    let r = boundary-room (a .sizes) (a .o) (a .count) (a .fields) (a .parameters .now) (a .points .now) (a .masks .now) (a .elements .now) (a .surface .now) (a .work .now) (a .floats .now) (n .result) (n .ensures .0) (c .before .if1 .left) in
+    let l = n .kept .1 .1 .1 .1 .1 .1 .1 .0 in
+    let r = boundary-room (a .s) (a .fields) (a .parameters .now) (a .points .now) (a .masks) (a .elements .now) (a .surface) (a .work .now) (a .floats .now) (n .result) (n .ensures .0) (c .before .if1 .left) in
     ((r .0, r .1, omega (arith, r .2, l)), n .ensures .1 ∙ ap zeroWords (sym l))
 
 same-length-3 : tie.Need-same-length-3
@@ -41,10 +41,10 @@ same-length-4 c = search needs
 
 returns-2 : tie.Need-returns-2
 returns-2 c =
-    let a = (c .before .before .before .before .before .before .before .before .before .before .before .before .before .before .before .before .before .before .before .before .before .args) in
+    let a = (c .before .before .before .before .before .before .before .before .before .before .before .before .before .before .before .before .before .before .before .args) in
     let n = (c .before .before .before .before .before .before .before .before .before .before .before .intake-numbers) in
     let b = (c .before .before .boundary-number) in
-    (intake-go (a .sizes) (a .o) (a .count) (a .fields) (a .parameters .now) (a .points .now) (a .masks .now) (a .elements .now) (a .surface .now) (a .work .now) (a .floats .now) (n .result) (n .ensures .0) (c .before .before .before .before .if1 .left) (b .result) (b .ensures .0), (b .ensures .1 ∙ ap zeroWords (n .kept .1 .1 .1 .1 .1 .1 .1 .1 .1 .0), c .before .before .before .before .before .before .before .clear-floats .ensures))
+    (intake-go (a .s) (a .fields) (a .parameters .now) (a .points .now) (a .masks) (a .elements .now) (a .surface) (a .work .now) (a .floats .now) (n .result) (n .ensures .0) (c .before .before .before .before .if1 .left) (b .result) (b .ensures .0), (b .ensures .1 ∙ ap zeroWords (n .kept .1 .1 .1 .1 .1 .1 .1 .0), c .before .before .before .before .before .before .before .clear-floats .ensures))
 
 pub intake-spec : {M : Type 1} → statement M
 intake-spec =

@@ -17,16 +17,22 @@ same-length : tie.Need-same-length
 same-length c = search needs
 
 returns : tie.Need-returns
-returns c = (numbers-stop (c .before .before .before .before .before .before .before .before .before .before .before .before .before .args .sizes) (c .before .before .before .before .before .before .before .before .before .before .before .before .before .args .o) (c .before .before .before .before .before .before .before .before .before .before .before .before .before .args .count) (c .before .before .before .before .before .before .before .before .before .before .before .before .before .args .fields) (c .before .before .before .before .before .before .before .before .before .before .before .before .before .args .parameters .now) (c .before .before .before .before .before .before .before .before .before .before .before .before .before .args .points .now) (c .before .before .before .before .before .before .before .before .before .before .before .before .before .args .masks .now) (c .before .before .before .before .before .before .before .before .before .before .before .before .before .args .elements .now) (c .before .before .before .before .before .before .before .before .before .before .before .before .before .args .surface .now) (c .before .before .before .before .before .before .before .before .before .before .before .before .before .args .work .now) (c .before .before .before .before .before .before .before .before .before .before .before .before .before .args .floats .now) (length (c .before .before .before .before .clear .last .0)) (c .before .settings-number .result) (c .before .before .before .before .clear .kept .0) (c .before .settings-number .ensures) (c .if1 .taken), c .before .before .before .before .clear .ensures)
+returns c =
+    let a = (c .before .before .before .before .before .before .before .before .before .before .before .args) in
+    (numbers-stop (a .s) (a .fields) (a .parameters .now) (a .points .now) (a .masks) (a .elements .now) (a .surface) (a .work .now) (a .floats .now) (length (c .before .before .before .before .clear .last .0)) (c .before .settings-number .result) (c .before .before .before .before .clear .kept .0) (c .before .settings-number .ensures) (c .if1 .taken), c .before .before .before .before .clear .ensures)
 
 mesh-number-requires : tie.Need-mesh-number-requires
-mesh-number-requires c κs = (room-left (c .before .before .before .before .before .before .before .before .before .before .before .before .before .before .args .sizes) (c .before .before .before .before .before .before .before .before .before .before .before .before .before .before .args .o) (c .before .before .before .before .before .before .before .before .before .before .before .before .before .before .args .count) (c .before .before .before .before .before .before .before .before .before .before .before .before .before .before .args .fields) (c .before .before .before .before .before .before .before .before .before .before .before .before .before .before .args .parameters .now) (c .before .before .before .before .before .before .before .before .before .before .before .before .before .before .args .points .now) (c .before .before .before .before .before .before .before .before .before .before .before .before .before .before .args .masks .now) (c .before .before .before .before .before .before .before .before .before .before .before .before .before .before .args .elements .now) (c .before .before .before .before .before .before .before .before .before .before .before .before .before .before .args .surface .now) (c .before .before .before .before .before .before .before .before .before .before .before .before .before .before .args .work .now) (c .before .before .before .before .before .before .before .before .before .before .before .before .before .before .args .floats .now) (length (c .before .before .before .before .before .clear .last .0)) (c .before .before .settings-number .result) (c .before .before .before .before .before .clear .kept .0) (c .before .before .settings-number .ensures) (c .before .if1 .left), c .before .before .before .before .before .clear .ensures ∙ ap zeroWords (sym (c .before .before .before .before .before .clear .kept .0)))
+mesh-number-requires c κs =
+    let a = (c .before .before .before .before .before .before .before .before .before .before .before .before .args) in
+    (room-left (a .s) (a .fields) (a .parameters .now) (a .points .now) (a .masks) (a .elements .now) (a .surface) (a .work .now) (a .floats .now) (length (c .before .before .before .before .before .clear .last .0)) (c .before .before .settings-number .result) (c .before .before .before .before .before .clear .kept .0) (c .before .before .settings-number .ensures) (c .before .if1 .left), c .before .before .before .before .before .clear .ensures ∙ ap zeroWords (sym (c .before .before .before .before .before .clear .kept .0)))
 
 same-length-2 : tie.Need-same-length-2
 same-length-2 c = search needs
 
 returns-2 : tie.Need-returns-2
-returns-2 c = (numbers-go (c .before .before .before .before .before .before .before .before .before .before .before .before .before .before .before .before .before .args .sizes) (c .before .before .before .before .before .before .before .before .before .before .before .before .before .before .before .before .before .args .o) (c .before .before .before .before .before .before .before .before .before .before .before .before .before .before .before .before .before .args .count) (c .before .before .before .before .before .before .before .before .before .before .before .before .before .before .before .before .before .args .fields) (c .before .before .before .before .before .before .before .before .before .before .before .before .before .before .before .before .before .args .parameters .now) (c .before .before .before .before .before .before .before .before .before .before .before .before .before .before .before .before .before .args .points .now) (c .before .before .before .before .before .before .before .before .before .before .before .before .before .before .before .before .before .args .masks .now) (c .before .before .before .before .before .before .before .before .before .before .before .before .before .before .before .before .before .args .elements .now) (c .before .before .before .before .before .before .before .before .before .before .before .before .before .before .before .before .before .args .surface .now) (c .before .before .before .before .before .before .before .before .before .before .before .before .before .before .before .before .before .args .work .now) (c .before .before .before .before .before .before .before .before .before .before .before .before .before .before .before .before .before .args .floats .now) (length (c .before .before .before .before .before .before .before .before .clear .last .0)) (c .before .before .before .before .before .settings-number .result) (c .before .before .before .before .before .before .before .before .clear .kept .0) (c .before .before .before .before .before .settings-number .ensures) (c .before .before .before .before .if1 .left) (c .before .before .mesh-number .result) (c .before .before .mesh-number .ensures .0), c .before .before .mesh-number .ensures .1 ∙ ap zeroWords (c .before .before .before .before .before .before .before .before .clear .kept .0))
+returns-2 c =
+    let a = (c .before .before .before .before .before .before .before .before .before .before .before .before .before .before .before .args) in
+    (numbers-go (a .s) (a .fields) (a .parameters .now) (a .points .now) (a .masks) (a .elements .now) (a .surface) (a .work .now) (a .floats .now) (length (c .before .before .before .before .before .before .before .before .clear .last .0)) (c .before .before .before .before .before .settings-number .result) (c .before .before .before .before .before .before .before .before .clear .kept .0) (c .before .before .before .before .before .settings-number .ensures) (c .before .before .before .before .if1 .left) (c .before .before .mesh-number .result) (c .before .before .mesh-number .ensures .0), c .before .before .mesh-number .ensures .1 ∙ ap zeroWords (c .before .before .before .before .before .before .before .before .clear .kept .0))
 
 pub intake-numbers-spec : {M : Type 1} → statement M
 intake-numbers-spec =

@@ -1,53 +1,61 @@
 -- `mesh::link::interior_ok_in` meets its contract, call by call. Assumes nothing.
-use mathlib.Core.Path.{_∙_}
-use native.Mathlib.Omega.{arith}
-use Rattle.mesh.proofs.Laws.LinkRows.Whole.{element-room, interior-kept, interior-answer}
+use mathlib.Core.Path.{sym, _∙_}
+use Rattle.mesh.proofs.Laws.LinkRows.Table.{table-room, table-distinct, table-answer}
 use borrow.Author.Needs.{needs}
 use Rattle.mesh.proofs.link.interior_ok_in.Statement.{statement}
 use Rattle.mesh.proofs.link.interior_ok_in.Tie as tie
 use Rattle.mesh.proofs.link.interior_ok_in.Reads as reads
 use Rattle.mesh.proofs.link.interior_ok_in.Lts as lts
-use Rattle.mesh.proofs.link.links_meet.Reads as links-meet-reads
-use Rattle.mesh.proofs.link.list_links.Reads as list-links-reads
-use Rattle.mesh.proofs.manifold.sort_from.Reads as sort-from-reads
+use Rattle.mesh.proofs.link.all_told.Reads as all-told-reads
+use Rattle.mesh.proofs.link.fill_table.Reads as fill-table-reads
+use Rattle.mesh.proofs.link.interior_by_all.Reads as interior-by-all-reads
+use Rattle.mesh.proofs.link.interior_by_table.Reads as interior-by-table-reads
 
-list-links-requires : tie.Need-list-links-requires
-list-links-requires c κs = search needs
-
-mul-sort-from : tie.Need-mul-sort-from
-mul-sort-from c = search needs
-
-mul-sort-from-2 : tie.Need-mul-sort-from-2
-mul-sort-from-2 c = search needs
-
-sort-from-requires : tie.Need-sort-from-requires
-sort-from-requires c κs = element-room (c .before .before .before .before .before .before .args .a) (c .before .before .before .before .before .before .args .b) (c .before .before .before .before .before .before .args .n) (c .before .before .before .before .before .before .args .area .now) (c .before .before .before .list-links .last .0) (c .before .before .before .before .before .before .args .area .now) (c .before .before .before .before .before .before .pre .1) (c .before .before .before .list-links .ensures)
-
-mul-links-meet : tie.Need-mul-links-meet
-mul-links-meet c = search needs
-
-mul-links-meet-2 : tie.Need-mul-links-meet-2
-mul-links-meet-2 c = search needs
-
-links-meet-requires : tie.Need-links-meet-requires
-links-meet-requires c κs = (omega arith, (let k = interior-kept (c .before .before .before .before .before .before .before .before .before .before .args .a) (c .before .before .before .before .before .before .before .before .before .before .args .b) (c .before .before .before .before .before .before .before .before .before .before .args .n) (c .before .before .before .before .before .before .before .before .before .before .args .area .now) (c .before .before .before .before .before .before .before .list-links .last .0) (c .before .before .before .sort-from .last .0) (c .before .before .before .before .before .before .before .before .before .before .pre .1) (c .before .before .before .before .before .before .before .list-links .ensures) (c .before .before .before .sort-from .ensures) in omega (arith, k .long, (c .before .before .before .before .before .before .before .before .before .before .pre .1))))
+interior-by-all-requires : tie.Need-interior-by-all-requires
+interior-by-all-requires c κs = (c .before .before .before .pre .0, c .before .before .before .pre .1, c .before .before .before .pre .2)
 
 same-length : tie.Need-same-length
-same-length c = interior-kept (c .before .before .before .before .before .before .before .before .before .before .before .args .a) (c .before .before .before .before .before .before .before .before .before .before .before .args .b) (c .before .before .before .before .before .before .before .before .before .before .before .args .n) (c .before .before .before .before .before .before .before .before .before .before .before .args .area .now) (c .before .before .before .before .before .before .before .before .list-links .last .0) (c .before .before .before .before .sort-from .last .0) (c .before .before .before .before .before .before .before .before .before .before .before .pre .1) (c .before .before .before .before .before .before .before .before .list-links .ensures) ((c .before .before .before .before .sort-from .ensures)) .long
+same-length c = c .before .before .interior-by-all .ensures .1 .long
 
 returns : tie.Need-returns
-returns c = ((c .links-meet .ensures) ∙ interior-answer (c .before .before .before .before .before .before .before .before .before .before .before .args .a) (c .before .before .before .before .before .before .before .before .before .before .before .args .b) (c .before .before .before .before .before .before .before .before .before .before .before .args .n) (c .before .before .before .before .before .before .before .before .before .before .before .args .area .now) (c .before .before .before .before .before .before .before .before .list-links .last .0) (c .before .before .before .before .sort-from .last .0) (c .before .before .before .before .before .before .before .before .before .before .before .pre .1) (c .before .before .before .before .before .before .before .before .list-links .ensures) (c .before .before .before .before .sort-from .ensures) (c .before .before .before .before .before .before .before .before .before .before .before .pre .2), interior-kept (c .before .before .before .before .before .before .before .before .before .before .before .args .a) (c .before .before .before .before .before .before .before .before .before .before .before .args .b) (c .before .before .before .before .before .before .before .before .before .before .before .args .n) (c .before .before .before .before .before .before .before .before .before .before .before .args .area .now) (c .before .before .before .before .before .before .before .before .list-links .last .0) (c .before .before .before .before .sort-from .last .0) (c .before .before .before .before .before .before .before .before .before .before .before .pre .1) (c .before .before .before .before .before .before .before .before .list-links .ensures) (c .before .before .before .before .sort-from .ensures))
+returns c = c .before .before .interior-by-all .ensures
+
+fill-table-requires : tie.Need-fill-table-requires
+fill-table-requires c κs = search needs
+
+all-told-requires : tie.Need-all-told-requires
+all-told-requires c κs = search needs
+
+interior-by-table-requires : tie.Need-interior-by-table-requires
+interior-by-table-requires c κs = (c .before .before .before .before .before .before .before .before .before .before .pre .0, table-room (c .before .before .before .before .before .before .before .before .before .before .args .a) (c .before .before .before .before .before .before .before .before .before .before .args .b) (c .before .before .before .before .before .before .before .before .before .before .args .n) (c .before .before .before .before .before .before .fill-table .ensures) (c .before .before .before .before .before .before .before .before .before .before .pre .1), table-distinct (c .before .before .before .before .before .before .before .before .before .before .args .a) (c .before .before .before .before .before .before .before .before .before .before .args .b) (c .before .before .before .before .before .before .before .before .before .before .args .n) (c .before .before .before .before .before .before .fill-table .ensures) (c .before .before .before .before .before .before .before .before .before .before .pre .2), sym (c .before .before .all-told .ensures) ∙ c .before .if2 .taken)
+
+same-length-2 : tie.Need-same-length-2
+same-length-2 c = table-answer (c .before .before .before .before .before .before .before .before .before .before .before .before .before .args .a) (c .before .before .before .before .before .before .before .before .before .before .before .before .before .args .b) (c .before .before .before .before .before .before .before .before .before .before .before .before .before .args .n) (c .before .before .before .before .before .before .before .before .before .fill-table .ensures) (c .before .before .interior-by-table .ensures) .1 .long
+
+returns-2 : tie.Need-returns-2
+returns-2 c = table-answer (c .before .before .before .before .before .before .before .before .before .before .before .before .before .args .a) (c .before .before .before .before .before .before .before .before .before .before .before .before .before .args .b) (c .before .before .before .before .before .before .before .before .before .before .before .before .before .args .n) (c .before .before .before .before .before .before .before .before .before .fill-table .ensures) (c .before .before .interior-by-table .ensures)
+
+interior-by-all-requires-2 : tie.Need-interior-by-all-requires-2
+interior-by-all-requires-2 c κs = (c .before .before .before .before .before .before .before .before .before .before .pre .0, table-room (c .before .before .before .before .before .before .before .before .before .before .args .a) (c .before .before .before .before .before .before .before .before .before .before .args .b) (c .before .before .before .before .before .before .before .before .before .before .args .n) (c .before .before .before .before .before .before .fill-table .ensures) (c .before .before .before .before .before .before .before .before .before .before .pre .1), table-distinct (c .before .before .before .before .before .before .before .before .before .before .args .a) (c .before .before .before .before .before .before .before .before .before .before .args .b) (c .before .before .before .before .before .before .before .before .before .before .args .n) (c .before .before .before .before .before .before .fill-table .ensures) (c .before .before .before .before .before .before .before .before .before .before .pre .2))
+
+same-length-3 : tie.Need-same-length-3
+same-length-3 c = table-answer (c .before .before .before .before .before .before .before .before .before .before .before .before .before .args .a) (c .before .before .before .before .before .before .before .before .before .before .before .before .before .args .b) (c .before .before .before .before .before .before .before .before .before .before .before .before .before .args .n) (c .before .before .before .before .before .before .before .before .before .fill-table .ensures) (c .before .before .interior-by-all2 .ensures) .1 .long
+
+returns-3 : tie.Need-returns-3
+returns-3 c = table-answer (c .before .before .before .before .before .before .before .before .before .before .before .before .before .args .a) (c .before .before .before .before .before .before .before .before .before .before .before .before .before .args .b) (c .before .before .before .before .before .before .before .before .before .before .before .before .before .args .n) (c .before .before .before .before .before .before .before .before .before .fill-table .ensures) (c .before .before .interior-by-all2 .ensures)
 
 pub interior-ok-in-spec : {M : Type 1} → statement M
 interior-ok-in-spec =
     tie.close
     (tie.spec
-    list-links-requires
-    mul-sort-from
-    mul-sort-from-2
-    sort-from-requires
-    mul-links-meet
-    mul-links-meet-2
-    links-meet-requires
+    interior-by-all-requires
     same-length
-    returns)
+    returns
+    fill-table-requires
+    all-told-requires
+    interior-by-table-requires
+    same-length-2
+    returns-2
+    interior-by-all-requires-2
+    same-length-3
+    returns-3)

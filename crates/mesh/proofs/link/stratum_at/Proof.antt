@@ -11,7 +11,7 @@ use Rattle.mesh.proofs.link.stratum_at.Tie as tie
 use Rattle.mesh.proofs.link.stratum_at.Reads as reads
 use Rattle.mesh.proofs.link.stratum_at.Lts as lts
 use Rattle.geometry.proofs.bounds.stratum.Reads as stratum-reads
-use Rattle.mesh.proofs.list.vertex_point.Reads as vertex-point-reads
+use Rattle.mesh.proofs.vertex.vertex_point.Reads as vertex-point-reads
 use Rattle.mesh.proofs.words.word.Reads as word-reads
 
 vertex-point-requires : tie.Need-vertex-point-requires

@@ -23,7 +23,8 @@ use Rattle.mesh.specs.Intake.{inBox}
 use Rattle.mesh.proofs.Laws.Intake.Chains.{and-on, or-on}
 use Rattle.repair.specs.Mesh.{any}
 use Rattle.repair.specs.Smooth.{chosen, outside, outsideAll}
-use Rattle.repair.specs.Regions.{regionsOf, allowedBy}
+use Rattle.repair.specs.Regions.{allowedBy}
+use Rattle.repair.specs.Step.{regionsOf}
 
 -- ---- one of the first n of a list passes a test: what is left from i on is the whole
 

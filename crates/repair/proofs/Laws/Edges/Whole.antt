@@ -24,12 +24,13 @@ use Rattle.mesh.specs.Element.{tets}
 use Rattle.mesh.specs.List.{gone}
 use Rattle.mesh.specs.Short.{shortEdges, edgeRow, shortFits, Shorts, shortIn}
 use Rattle.mesh.specs.About as about
+use Rattle.mesh.specs.Measure.{measure}
 use Rattle.mesh.proofs.Laws.Parts.{mid-put}
 use Rattle.mesh.proofs.Laws.Complex.Sets.{split}
 use Rattle.mesh.proofs.Laws.Intake.Reads.{length-tets}
 use Rattle.mesh.proofs.Laws.List.Bad.{keep-few}
 use Rattle.mesh.proofs.Laws.About.Calls.{Copied, live-count, live-copied}
-use Rattle.repair.specs.Mesh.{Mesh, measure}
+use Rattle.repair.specs.Mesh.{Mesh}
 use Rattle.repair.specs.Improve.{State, listedEdges}
 use Rattle.repair.specs.Layout.{Room, Stands, Same, edgesAt, edgesOf, edgesIn, slotsIn, liveIn}
 use Rattle.repair.proofs.Laws.Layout.{room-laid}

@@ -17,9 +17,9 @@ use Rattle.mesh.specs.Element.{verticesOf, cornersOf}
 use Rattle.mesh.specs.Link.{without}
 use Rattle.mesh.specs.Group.{numbers}
 use Rattle.mesh.specs.Intake.{wellNumbered}
+use Rattle.mesh.specs.Measure.{Measure}
 use Rattle.mesh.proofs.Laws.Complex.Sets.{split, out, mem-here}
 use Rattle.mesh.proofs.Laws.Boundary.Same.{length-map}
-use Rattle.repair.specs.Mesh.{Measure}
 use Rattle.repair.specs.Flip.{State, hasAll, slotHas, live, elementsAt, besides, twoToThree, tryFace}
 use Rattle.repair.specs.FlipTries.{Start, FaceListed}
 use Rattle.repair.proofs.Laws.Improve.Intake.{numbered-element}

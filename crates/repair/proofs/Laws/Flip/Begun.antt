@@ -20,6 +20,7 @@ use Rattle.mesh.specs.Boundary.{sameTriple, leTriple, allFaces}
 use Rattle.mesh.specs.Intake.{wellNumbered}
 use Rattle.mesh.specs.List as slots
 use Rattle.mesh.specs.Shared.{owners, hasTwo, badKeys, sharedFaces}
+use Rattle.mesh.specs.Measure.{measure, isBad}
 use mathlib.Core.Logic.{inl, inr}
 use Rattle.mesh.proofs.Laws.Complex.Sets.{and-fst, and-snd, mem-here, mem-there}
 use Rattle.mesh.proofs.Laws.Parts.{side}
@@ -27,8 +28,8 @@ use Rattle.mesh.proofs.Laws.Link.Members.{kept-elim, every-elim, every-intro}
 use Rattle.mesh.proofs.Laws.Link.Simplices.{every-mem, rising, rising-head, rising-tail}
 use Rattle.mesh.proofs.Laws.Link.Keys.{Fours, key-mem}
 use Rattle.mesh.proofs.Laws.List.Meaning.{pairRow, bad-edges}
-use Rattle.mesh.proofs.Laws.Intake.Upright.{below}
-use Rattle.repair.specs.Mesh.{measure, edge, allEdges, lePair, isBad}
+use Rattle.mesh.proofs.Laws.Intake.Numbered.{below}
+use Rattle.repair.specs.Mesh.{edge, allEdges, lePair}
 use Rattle.repair.specs.Flip.{listedEdges}
 use Rattle.repair.specs.FlipTries.{FaceListed, FacesListed, EdgesListed, edgeRow}
 use Rattle.repair.proofs.Laws.Rounds.{every-weaker}

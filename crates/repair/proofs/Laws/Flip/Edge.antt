@@ -18,12 +18,13 @@ use Rattle.mesh.specs.Complex.{mem, sub, Nodup, Sub}
 use Rattle.mesh.specs.Moves.{Flippable32}
 use Rattle.mesh.specs.Element.{tet, verticesOf}
 use Rattle.mesh.specs.Link.{without}
+use Rattle.mesh.specs.Measure.{Measure}
 use Rattle.mesh.proofs.Laws.Complex.Sets.{split, clash, nope, or-cases, or-left, or-right, and-fst, and-snd, mem-there, mem-nil, out}
 use Rattle.mesh.proofs.Laws.Sort.{ordered-sort}
 use Rattle.mesh.proofs.Laws.Unique.{elem-unique, unique-rising}
 use Rattle.mesh.proofs.Laws.Link.Members.{kept-intro}
 use Rattle.mesh.proofs.Laws.Link.Simplices.{sort-mem}
-use Rattle.repair.specs.Mesh.{Measure, any}
+use Rattle.repair.specs.Mesh.{any}
 use Rattle.repair.specs.Wholeness.{Exact}
 use Rattle.repair.specs.Flip.{State, hasAll, slotHas, live, numbersWith, elementsAt, besides, replace, threeToTwo, tryEdge}
 use Rattle.repair.proofs.Laws.Site.Near.{mem-append}

@@ -15,14 +15,15 @@ use Rattle.mesh.specs.Sort.{sort}
 use Rattle.mesh.specs.Complex.{Proper}
 use Rattle.mesh.specs.Element.{verticesOf, cornersOf, keyOf, parityOf}
 use Rattle.mesh.specs.Boundary.{leTriple, allFaces, withKey, keyNumber, firstNumber, boundaryNumber, boundaryOf}
+use Rattle.mesh.specs.Measure.{measure, determinantOf}
 use Rattle.mesh.proofs.Laws.Complex.Sets.{split}
 use Rattle.mesh.proofs.Laws.Link.Members.{every-elim}
 use Rattle.mesh.proofs.Laws.Link.Simplices.{rising, rising-nodup}
 use Rattle.mesh.proofs.Laws.Link.Keys.{Fours, proper-fours, times-star}
 use Rattle.mesh.proofs.Laws.Link.Closed.{AtMostTwo, with-key}
 use Rattle.mesh.proofs.Laws.Boundary.Same.{sort-every}
-use Rattle.repair.specs.Mesh.{Mesh, made, refused, measure, determinantOf}
-use Rattle.repair.specs.Flip.{live, flips, sameTriples, sortedKeys, endNumber, flip}
+use Rattle.repair.specs.Mesh.{Mesh, made, refused}
+use Rattle.repair.specs.Flip.{live, flips, sameTriples, sortedKeys, endNumber, flipBy, flip}
 use Rattle.repair.proofs.Laws.Smooth.Scores.{AllNear}
 use Rattle.repair.proofs.Laws.Flip.Listed.{keys-rise}
 use Rattle.repair.proofs.Laws.Flip.Pass.{start-held}
@@ -75,7 +76,7 @@ end-16 given ts h = go (eqb (boundaryNumber ts) 0) (sameTriples (sortedKeys (bou
 -- `flip` never finds a face three times
 pub flip-never-16 : (m : Mesh) → AllNear (m .points) → Proper (length (m .points)) (map verticesOf (m .elements)) → boundaryNumber (m .elements) ≡ 0
     → ((t : Tet) → List·Memᴰ t (m .elements) → lt zero64 (determinantOf (m .points) t) ≡ true) → flip m ≡ refused 16 → ⊥
-unfolding flip
+unfolding flip flipBy
 flip-never-16 m near P whole upright h = go (eqb (endNumber (m .surface) ts) 0) h
   where
     ts : List Tet

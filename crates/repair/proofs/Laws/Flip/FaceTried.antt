@@ -17,12 +17,13 @@ use Rattle.mesh.specs.Element.{tet, verticesOf, cornersOf}
 use Rattle.mesh.specs.Link.{without}
 use Rattle.mesh.specs.Intake.{wellNumbered}
 use Rattle.mesh.specs.List.{gone}
+use Rattle.mesh.specs.Measure.{Measure}
 use Rattle.mesh.proofs.Laws.Bools.{and-intro}
 use Rattle.mesh.proofs.Laws.Complex.Sets.{split, clash, or-left, or-right, out-head, out-tail}
 use Rattle.repair.specs.declared.orient.Trio.{Trio}
 use Rattle.repair.specs.declared.tried.Tried.{Tried}
 use Rattle.repair.specs.declared.tried.Places.{Places}
-use Rattle.repair.specs.Mesh.{Measure, any}
+use Rattle.repair.specs.Mesh.{any}
 use Rattle.repair.specs.Flip.{State, slotHas, emptied, elementsAt, oriented, accepted, replace, tryFace}
 use Rattle.repair.specs.Layout.{slotOk}
 use Rattle.repair.specs.Replace.{slotAt}

@@ -6,9 +6,9 @@ use native.Mathlib.Omega.{arith}
 use Rattle.mesh.specs.Complex.{sub, keep, Proper}
 use Rattle.mesh.specs.Moves.{Flippable23, Flippable32}
 use Rattle.mesh.specs.Element.{tet, verticesOf}
+use Rattle.mesh.specs.Measure.{Measure}
 use Rattle.mesh.proofs.Laws.Complex.Flip.{flip23-proper, flip23-count, flip32-proper, flip32-count}
 use Rattle.mesh.proofs.Laws.Link.Closed.{AtMostTwo}
-use Rattle.repair.specs.Mesh.{Measure}
 use Rattle.repair.specs.Flip.{oriented}
 use Rattle.repair.proofs.Laws.Flip.Replace.{AsGood, two-to-three, three-to-two, turned, all-turned, rearranged}
 use Rattle.repair.proofs.Laws.Flip.Five.{thin23, thin32}

@@ -11,9 +11,9 @@ use Rattle.mesh.specs.Complex.{mem, Nodup, IsElement}
 use Rattle.mesh.specs.Tests.{every}
 use Rattle.mesh.specs.Element.{tet, verticesOf}
 use Rattle.mesh.specs.Intake.{wellNumbered}
+use Rattle.mesh.specs.Measure.{Measure}
 use Rattle.mesh.proofs.Laws.Bools.{and-intro}
 use Rattle.mesh.proofs.Laws.Complex.Sets.{and-fst, and-snd, mem-here, mem-there, out-head, out-tail}
-use Rattle.repair.specs.Mesh.{Measure}
 use Rattle.repair.specs.Flip.{oriented}
 use Rattle.repair.proofs.Laws.Improve.Intake.{numbered-element}
 use Rattle.repair.proofs.Laws.Flip.Replace.{turned}

@@ -20,14 +20,15 @@ use Rattle.mesh.specs.Complex.{Proper, SameCount, alternating}
 use Rattle.mesh.specs.Tests.{every}
 use Rattle.mesh.specs.Element.{tet, verticesOf, cornersOf, keyOf}
 use Rattle.mesh.specs.Boundary.{allFaces, withKey, boundaryNumber, boundaryOf}
+use Rattle.mesh.specs.Measure.{Measure, measure, determinantOf, scoreOf, lowestOf}
 use Rattle.mesh.proofs.Laws.Complex.Sets.{and-fst, and-snd}
 use Rattle.mesh.proofs.Laws.Complex.Steps.{same-alternating}
 use Rattle.mesh.proofs.Laws.Link.Simplices.{rising, rising-nodup}
 use Rattle.mesh.proofs.Laws.Link.Keys.{proper-fours}
 use Rattle.mesh.proofs.Laws.Link.Closed.{AtMostTwo, boundary-two}
-use Rattle.repair.specs.Mesh.{Mesh, made, refused, Measure, measure, determinantOf, scoreOf, lowestOf}
+use Rattle.repair.specs.Mesh.{Mesh, made, refused}
 use Rattle.repair.specs.Wholeness.{Exact, OneOrTwo}
-use Rattle.repair.specs.Flip.{State, live, listedFaces, listedEdges, tryFace, tryFaces, tryEdge, tryEdges, flips, sameTriples, sortedKeys, endNumber, flip}
+use Rattle.repair.specs.Flip.{State, live, listedFaces, listedEdges, tryFace, tryFaces, tryEdge, tryEdges, flips, sameTriples, sortedKeys, endNumber, flipBy, flip}
 use Rattle.repair.proofs.Laws.Smooth.Scores.{AllNear, score-exact, lowest-exact, lowest-one, lowest-under, lowest-over, no-loss}
 use Rattle.repair.proofs.Laws.Improve.Triangles.{boundary-triangles}
 use Rattle.repair.proofs.Laws.Flip.Slots.{Aged, aged-start, live-some}
@@ -117,7 +118,7 @@ start-held m near P whole upright =
 
 pub flip-keeps : (m : Mesh) → AllNear (m .points) → Proper (length (m .points)) (map verticesOf (m .elements)) → boundaryNumber (m .elements) ≡ 0
     → ((t : Tet) → List·Memᴰ t (m .elements) → lt zero64 (determinantOf (m .points) t) ≡ true) → (count : ℕ) (m′ : Mesh) → flip m ≡ made count m′ → Flipped m m′ count
-unfolding flip
+unfolding flip flipBy
 flip-keeps m near P whole upright count m′ h = go (eqb (endNumber (m .surface) ts) 0) refl h
   where
     μ : Measure

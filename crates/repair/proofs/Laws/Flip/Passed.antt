@@ -112,7 +112,7 @@ module _ (o : Options) (s : State) (work : List ℕ) (floats : ℕ) (fit : Fitti
   -- what the pass leaves is the definition's
   pub flip-finished : (a : Answer) (es ss : List ℕ) → _≡_ {A = Answer × List ℕ × List ℕ} (a, es, ss) (flipWhole (s .sizes) (s .points) (s .elements) (s .surface))
       → placed s a es ss ≡ finish s (def.flip (meshOf s))
-  unfolding flipWhole def.flip meshOf with-elements
+  unfolding flipWhole def.flip def.flipBy meshOf with-elements
   flip-finished a es ss h =
       let l = flipLast (s .sizes) (s .points) (s .elements) in
       ap spread h

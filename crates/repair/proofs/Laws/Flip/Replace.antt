@@ -19,6 +19,7 @@ use Rattle.mesh.specs.Complex.{mem, sub, within, keep, Nodup, Sub, IsElement, P
 use Rattle.mesh.specs.Moves.{flip23, flip32, Flippable23, Flippable32}
 use Rattle.mesh.specs.Tests.{every}
 use Rattle.mesh.specs.Element.{tet, verticesOf}
+use Rattle.mesh.specs.Measure.{Measure, lowestOf}
 use Rattle.mesh.proofs.Laws.Bools.{or-swap}
 use Rattle.mesh.proofs.Laws.Complex.Sets.{and-fst, and-snd, out, out-head, within-intro}
 use Rattle.mesh.proofs.Laws.Complex.Same.{same-proper, same-count}
@@ -26,7 +27,6 @@ use Rattle.mesh.proofs.Laws.Complex.Tets.{tet-of}
 use Rattle.mesh.proofs.Laws.Link.Members.{kept-elim, every-elim}
 use Rattle.mesh.proofs.Laws.Boundary.Same.{keep-map}
 use Rattle.mesh.proofs.Laws.Link.Closed.{AtMostTwo}
-use Rattle.repair.specs.Mesh.{Measure, lowestOf}
 use Rattle.repair.specs.Wholeness.{Exact}
 use Rattle.repair.specs.Flip.{State, hasAll, live, numbersWith, elementsAt, emptied, oriented, accepted, replace}
 use Rattle.repair.proofs.Laws.Smooth.Scores.{above-exact, lowest-exact, lowest-under, lowest-over}

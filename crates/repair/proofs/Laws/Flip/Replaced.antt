@@ -13,12 +13,12 @@ use Rattle.mesh.specs.declared.element.Tet.{Tet}
 use Rattle.mesh.specs.declared.star.Index.{Index}
 use Rattle.mesh.specs.Tests.{every, under}
 use Rattle.mesh.specs.Intake.{wellNumbered}
+use Rattle.mesh.specs.Measure.{Measure}
 use Rattle.mesh.proofs.Laws.Complex.Sets.{and-fst, and-snd}
 use Rattle.mesh.proofs.Laws.Boundary.Same.{length-map}
 use Rattle.repair.specs.declared.orient.Trio.{Trio}
 use Rattle.repair.specs.declared.tried.Tried.{Tried}
 use Rattle.repair.specs.declared.tried.Places.{Places}
-use Rattle.repair.specs.Mesh.{Measure}
 use Rattle.repair.specs.Flip.{State, live, emptied, elementsAt, oriented, accepted, replace}
 use Rattle.repair.specs.Trio.{elementsOf}
 use Rattle.repair.specs.FlipLayout.{Stands, Kept}

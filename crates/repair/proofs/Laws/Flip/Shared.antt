@@ -20,12 +20,12 @@ use Rattle.mesh.specs.Element.{tet, cornersOf, keyOf}
 use Rattle.mesh.specs.Boundary.{sameTriple, leTriple, allFaces}
 use Rattle.mesh.specs.Group.{numbers}
 use Rattle.mesh.specs.Shared.{owners, hasTwo, badKeys, sharedFaces}
+use Rattle.mesh.specs.Measure.{Measure, measure}
 use Rattle.mesh.proofs.Laws.Complex.Sets.{split, and-fst, and-snd}
 use Rattle.mesh.proofs.Laws.Boundary.Same.{length-map}
 use Rattle.mesh.proofs.Laws.Link.Simplices.{rising}
 use Rattle.mesh.proofs.Laws.Link.Keys.{Fours}
 use Rattle.mesh.proofs.Laws.Shared.Meaning.{holds, owners-are}
-use Rattle.repair.specs.Mesh.{Measure, measure}
 use Rattle.repair.specs.Flip.{State, slotHas, numbersWith, listedFaces, tryFace, tryFaces}
 use Rattle.repair.proofs.Laws.Improve.Short.{Live, bad-same}
 use Rattle.repair.proofs.Laws.Flip.Listed.{faces-rise}

@@ -9,13 +9,13 @@ use lib.Dec.{eqb, leb}
 use lib.IntN.{pos}
 use lib.Ieee.{Float, fin, lt}
 use Rattle.geometry.specs.declared.point.Point.{Point}
-use Rattle.geometry.specs.Float.{_+₆₄_, zero64, totalFrom, total}
+use Rattle.geometry.specs.Float.{_+₆₄_, totalFrom, total}
 use Rattle.geometry.specs.Literals.{e-10}
 use Rattle.mesh.specs.declared.element.Tet.{Tet}
 use Rattle.mesh.specs.Tests.{every}
+use Rattle.mesh.specs.Measure.{Measure, measure, determinantOf, volumeOf, badCount, lowestOf}
 use Rattle.repair.specs.declared.orient.Trio.{Trio}
 use Rattle.repair.specs.declared.tally.Tally.{Tally}
-use Rattle.repair.specs.Mesh.{Measure, measure, determinantOf, volumeOf, badCount, lowestOf}
 use Rattle.repair.specs.Flip.{oriented, accepted}
 use Rattle.repair.specs.Tally.{started, counted, tallied}
 use Rattle.repair.specs.Trio.{elementsOf}
@@ -42,39 +42,39 @@ elements-map f u r e p q s = rw (e, p, q, s) (go (eqb (u .count) 3))
 
 -- ---- one element oriented
 
-module _ (ps : List Point) (t : Tet) (d : Float) (e : d ≡ determinantOf ps t) where
-  pub oriented-below : lt d zero64 ≡ true → _≡_ {A = Tet} (record { a = t .a; b = t .b; c = t .d; d = t .c }) (oriented (measure ps) t)
-  oriented-below h = sym (rw (sym e, h) refl)
+module _ (μ : Measure) (t : Tet) (b : Bool) (e : b ≡ μ .below t) where
+  pub oriented-below : b ≡ true → _≡_ {A = Tet} (record { a = t .a; b = t .b; c = t .d; d = t .c }) (oriented μ t)
+  oriented-below h = sym (rw (sym e ∙ h) refl)
 
-  pub oriented-other : lt d zero64 ≡ false → t ≡ oriented (measure ps) t
-  oriented-other h = sym (rw (sym e, h) refl)
+  pub oriented-other : b ≡ false → t ≡ oriented μ t
+  oriented-other h = sym (rw (sym e ∙ h) refl)
 
 -- ---- determinants above 0
 
-module _ (ps : List Point) (u : Trio) (d : Float) (e : d ≡ determinantOf ps (u .a)) where
-  pub above-first : lt zero64 d ≡ false → false ≡ every (measure ps .above) (elementsOf u)
+module _ (μ : Measure) (u : Trio) (b : Bool) (e : b ≡ μ .above (u .a)) where
+  pub above-first : b ≡ false → false ≡ every (μ .above) (elementsOf u)
   unfolding elementsOf
   above-first h = sym (go (eqb (u .count) 3))
     where
-      go : (b : Bool) → every (measure ps .above) (cond b (u .a ∷ u .b ∷ u .c ∷ []) (u .a ∷ u .b ∷ [])) ≡ false
-      go true = rw (sym e, h) refl
-      go false = rw (sym e, h) refl
+      go : (y : Bool) → every (μ .above) (cond y (u .a ∷ u .b ∷ u .c ∷ []) (u .a ∷ u .b ∷ [])) ≡ false
+      go true = rw (sym e ∙ h) refl
+      go false = rw (sym e ∙ h) refl
 
-  module _ (h : lt zero64 d ≡ true) (d₂ : Float) (e₂ : d₂ ≡ determinantOf ps (u .b)) where
-    pub above-second : lt zero64 d₂ ≡ false → false ≡ every (measure ps .above) (elementsOf u)
+  module _ (h : b ≡ true) (b₂ : Bool) (e₂ : b₂ ≡ μ .above (u .b)) where
+    pub above-second : b₂ ≡ false → false ≡ every (μ .above) (elementsOf u)
     unfolding elementsOf
     above-second g = sym (go (eqb (u .count) 3))
       where
-        go : (b : Bool) → every (measure ps .above) (cond b (u .a ∷ u .b ∷ u .c ∷ []) (u .a ∷ u .b ∷ [])) ≡ false
-        go true = rw (sym e, h, sym e₂, g) refl
-        go false = rw (sym e, h, sym e₂, g) refl
+        go : (y : Bool) → every (μ .above) (cond y (u .a ∷ u .b ∷ u .c ∷ []) (u .a ∷ u .b ∷ [])) ≡ false
+        go true = rw (sym e ∙ h, sym e₂ ∙ g) refl
+        go false = rw (sym e ∙ h, sym e₂ ∙ g) refl
 
-    module _ (g : lt zero64 d₂ ≡ true) where
-      pub above-two : (u .count ≡ 3 → ⊥) → true ≡ every (measure ps .above) (elementsOf u)
-      above-two k = sym (rw (elements-two u k, sym e, h, sym e₂, g) refl)
+    module _ (g : b₂ ≡ true) where
+      pub above-two : (u .count ≡ 3 → ⊥) → true ≡ every (μ .above) (elementsOf u)
+      above-two k = sym (rw (elements-two u k, sym e ∙ h, sym e₂ ∙ g) refl)
 
-      pub above-three : u .count ≡ 3 → (d₃ : Float) → d₃ ≡ determinantOf ps (u .c) → lt zero64 d₃ ≡ every (measure ps .above) (elementsOf u)
-      above-three k d₃ e₃ = sym (rw (elements-three u k, sym e, h, sym e₂, g, sym e₃) (and-true (lt zero64 d₃)))
+      pub above-three : u .count ≡ 3 → (b₃ : Bool) → b₃ ≡ μ .above (u .c) → b₃ ≡ every (μ .above) (elementsOf u)
+      above-three k b₃ e₃ = e₃ ∙ sym (rw (elements-three u k, sym e ∙ h, sym e₂ ∙ g) (and-true (μ .above (u .c))))
 
 -- ---- the tally
 

@@ -17,12 +17,13 @@ use Rattle.mesh.specs.Complex.{mem, Nodup}
 use Rattle.mesh.specs.Tests.{every, nodup, under}
 use Rattle.mesh.specs.Element.{tet, verticesOf}
 use Rattle.mesh.specs.Intake.{wellNumbered}
+use Rattle.mesh.specs.Measure.{Measure}
 use Rattle.mesh.proofs.Laws.Complex.Sets.{and-fst, mem-here, mem-there, out-head, out-tail, nope, clash}
 use Rattle.mesh.proofs.Laws.Link.Members.{kept-elim}
 use Rattle.repair.specs.declared.orient.Trio.{Trio}
 use Rattle.repair.specs.declared.tried.Tried.{Tried}
 use Rattle.repair.specs.declared.tried.Places.{Places}
-use Rattle.repair.specs.Mesh.{Measure, any}
+use Rattle.repair.specs.Mesh.{any}
 use Rattle.repair.specs.Flip.{State, hasAll, slotHas, live, numbersWith, elementsAt, emptied, besides, oriented, accepted, replace, threeToTwo, tryEdge}
 use Rattle.repair.specs.Trio.{elementsOf}
 use Rattle.repair.specs.Layout.{Same}

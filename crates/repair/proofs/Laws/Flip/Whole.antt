@@ -26,11 +26,11 @@ use Rattle.mesh.specs.Manifold.{triples}
 use Rattle.mesh.specs.Intake.{wellNumbered}
 use Rattle.mesh.specs.Shared.{sharedRow, sharedFaces}
 use Rattle.mesh.specs.About as about
+use Rattle.mesh.specs.Measure.{measure}
 use Rattle.mesh.proofs.Laws.Rows.{rows-same}
 use Rattle.mesh.proofs.Laws.About.Calls.{Copied, live-count, live-copied}
 use Rattle.repair.specs.declared.tried.Tried.{Tried}
 use Rattle.repair.specs.declared.tried.Lists.{Lists}
-use Rattle.repair.specs.Mesh.{measure}
 use Rattle.repair.specs.Flip.{State, live, listedEdges, tryFaces, tryEdges, flips}
 use Rattle.repair.specs.FlipLayout.{Room, Stands, FacesBound, EdgesBound}
 use Rattle.repair.specs.FlipTries.{Holds, Went, Start, FacesListed, EdgesListed, edgeRow, faceRowsAt, edgeRowsAt, Begun}

@@ -25,6 +25,7 @@ use Rattle.mesh.specs.Intake.{wellNumbered}
 use Rattle.mesh.specs.List.{gone}
 use Rattle.mesh.specs.Star.{goneWord, Complete}
 use Rattle.mesh.specs.About.{hasOne, starAll, members, entriesOf, aboutList, aboutIn, elementsIn}
+use Rattle.mesh.specs.Measure.{measure}
 use Rattle.mesh.proofs.Laws.Bools.{and-left, and-right}
 use Rattle.mesh.proofs.Laws.Complex.Sets.{clash, nope, or-cases, or-right, mem-cases, mem-nil}
 use Rattle.mesh.proofs.Laws.Link.Simplices.{every-mem}
@@ -35,7 +36,7 @@ use Rattle.mesh.proofs.Laws.Star.Calls.{Answered}
 use Rattle.mesh.proofs.Laws.About.Members.{entries-few}
 use Rattle.mesh.proofs.Laws.About.Answer.{about-count, about-answered}
 use Rattle.mesh.proofs.Laws.About.Calls.{Copied, about-elements, about-many}
-use Rattle.repair.specs.Mesh.{Mesh, measure, any, has}
+use Rattle.repair.specs.Mesh.{Mesh, any, has}
 use Rattle.repair.specs.Improve.{State, about, collapsed, gains}
 use Rattle.repair.specs.Layout.{Room, Stands, Pairs, Same, pairsAt, pairsOf, pairsIn, slotsIn, liveIn, slotOk}
 use Rattle.repair.proofs.Laws.Layout.{room-laid}

@@ -16,15 +16,17 @@ use Rattle.geometry.specs.Literals.{tenth, e-12, thousandthMore}
 use Rattle.geometry.specs.Score.{lowest, lowestFrom}
 use Rattle.mesh.specs.declared.element.Pair.{Pair}
 use Rattle.mesh.specs.declared.element.Tet.{Tet}
+use Rattle.mesh.specs.declared.measure.Measured.{Measured}
 use Rattle.mesh.specs.Words.{wordAt}
 use Rattle.mesh.specs.Tests.{every, nodup}
 use Rattle.mesh.specs.Element.{pair, tets, verticesOf}
+use Rattle.mesh.specs.Measure.{Measure, measure, badCount, lowestOf, measuredOf}
 use Rattle.mesh.proofs.Laws.Bools.{clash}
 use Rattle.repair.specs.declared.tally.Tally.{Tally}
-use Rattle.repair.specs.Mesh.{Measure, measure, determinantOf, scoreOf, badCount, lowestOf}
 use Rattle.repair.specs.Improve.{image, imageOf, collapsed, gains}
 use Rattle.repair.specs.Layout.{pairsOf}
 use Rattle.repair.specs.Tally.{started, counted, refusedOf, tallied, allowed, judged, Judged}
+use Rattle.repair.proofs.Laws.Measured.{measured-above, measured-score}
 use Rattle.repair.proofs.Laws.Gain.Tallies.{elementAt, tets-next, tets-none, counted-few, counted-bad, tallied-lowest, tallied-bad}
 
 -- ---- the image of a vertex
@@ -71,28 +73,24 @@ module _ {w : List ℕ} {p k v q left : ℕ} (g : Seeking w p k v q left) where
 
 -- ---- the tests of one image
 
--- a measure of four points is that of equal points
-pub of-equals : (f : Point → Point → Point → Point → Float) {a b c d a′ b′ c′ d′ : Point} → a ≡ a′ → b ≡ b′ → c ≡ c′ → d ≡ d′ → f a b c d ≡ f a′ b′ c′ d′
-of-equals f p q r s = rw (p, q, r, s) refl
-
 module _ (ps : List Point) (limit : Float) (r : Tally) (u : Tet) where
   pub judged-over : nodup (verticesOf u) ≡ false → r ≡ judged (measure ps) limit r u
   unfolding judged
   judged-over e = sym (rw e refl)
 
-  module _ (e : nodup (verticesOf u) ≡ true) (d : Float) (ed : d ≡ determinantOf ps u) where
-    pub judged-flat : lt zero64 d ≡ false → refusedOf r ≡ judged (measure ps) limit r u
+  module _ (e : nodup (verticesOf u) ≡ true) (m : Measured) (em : m ≡ measuredOf ps u) where
+    pub judged-flat : m .above ≡ false → refusedOf r ≡ judged (measure ps) limit r u
     unfolding judged
-    judged-flat h = sym (rw (e, sym ed, h) refl)
+    judged-flat h = sym (rw (e, sym (measured-above ps u em) ∙ h) refl)
 
-    module _ (h : lt zero64 d ≡ true) (s : Float) (es : s ≡ scoreOf ps u) where
-      pub judged-worse : lt (s +₆₄ e-12) limit ≡ true → refusedOf r ≡ judged (measure ps) limit r u
+    module _ (h : m .above ≡ true) where
+      pub judged-worse : lt (m .score +₆₄ e-12) limit ≡ true → refusedOf r ≡ judged (measure ps) limit r u
       unfolding judged
-      judged-worse g = sym (rw (e, sym ed, h, sym es, g) refl)
+      judged-worse g = sym (rw (e, sym (measured-above ps u em) ∙ h, sym (measured-score ps u em h), g) refl)
 
-      pub judged-well : lt (s +₆₄ e-12) limit ≡ false → counted r s ≡ judged (measure ps) limit r u
+      pub judged-well : lt (m .score +₆₄ e-12) limit ≡ false → counted r (m .score) ≡ judged (measure ps) limit r u
       unfolding judged
-      judged-well g = sym (rw (e, sym ed, h, sym es, g) refl)
+      judged-well g = sym (rw (e, sym (measured-above ps u em) ∙ h, sym (measured-score ps u em h), g) refl)
 
 -- ---- one more image
 

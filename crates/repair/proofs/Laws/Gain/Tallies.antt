@@ -14,9 +14,9 @@ use Rattle.geometry.specs.Score.{bad, lowest, lowestFrom}
 use Rattle.mesh.specs.declared.element.Tet.{Tet}
 use Rattle.mesh.specs.Words.{wordAt}
 use Rattle.mesh.specs.Element.{tet, tets}
+use Rattle.mesh.specs.Measure.{Measure, badCount, lowestOf}
 use Rattle.mesh.proofs.Laws.Bools.{split}
 use Rattle.repair.specs.declared.tally.Tally.{Tally}
-use Rattle.repair.specs.Mesh.{Measure, badCount, lowestOf}
 use Rattle.repair.specs.Tally.{started, counted, tallied}
 
 -- the element whose four words begin at p

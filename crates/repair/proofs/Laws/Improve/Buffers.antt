@@ -17,7 +17,8 @@ use Rattle.mesh.specs.Boundary.{allFaces, withKey}
 use Rattle.mesh.specs.declared.intake.Lengths.{Lengths}
 use Rattle.mesh.specs.Tests.{every}
 use Rattle.mesh.specs.Intake.{wellNumbered, allDifferent, intake}
-use Rattle.repair.specs.Mesh.{Mesh, determinantOf, scoreOf}
+use Rattle.mesh.specs.Measure.{determinantOf, scoreOf}
+use Rattle.repair.specs.Mesh.{Mesh}
 use Rattle.repair.specs.Step.{State, Call, triplesOf, meshOf, floatsOf, elementWords, tripleWords, committed, given}
 use Rattle.repair.specs.Wholeness.{OneOrTwo, Exact, Whole}
 use Rattle.repair.proofs.Laws.Improve.Scores.{Floor}

@@ -15,8 +15,9 @@ use Rattle.geometry.specs.Literals.{tenth}
 use Rattle.geometry.specs.Units.{unitsOf}
 use Rattle.mesh.specs.declared.intake.Sizes.{Sizes}
 use Rattle.mesh.specs.Intake.{intake}
+use Rattle.mesh.specs.Measure.{measure, scoreOf, lowestOf}
 use Rattle.repair.specs.declared.answer.Answer.the-variants.{Done, Refused}
-use Rattle.repair.specs.Mesh.{Mesh, Result, made, refused, measure, scoreOf, lowestOf}
+use Rattle.repair.specs.Mesh.{Mesh, Result, made, refused}
 use Rattle.repair.specs.Improve
 use Rattle.repair.specs.Smooth
 use Rattle.repair.specs.Flip

@@ -7,18 +7,20 @@ use Prim.Native.Nat.{ℕ}
 use native.Mathlib.Omega.{arith}
 use lib.Dec.{eqb}
 use lib.ListN.{length, take}
+use Rattle.geometry.specs.declared.bounds.Options.{Options}
 use Rattle.mesh.specs.declared.element.Tet.{Tet}
 use Rattle.mesh.specs.declared.element.Triple.{Triple}
 use Rattle.mesh.specs.Element.{parityOf}
 use Rattle.mesh.specs.Boundary.{allFaces, withKey, boundaryOf}
+use Rattle.mesh.specs.Measure.{Measure, measure}
 use Rattle.mesh.proofs.Laws.Boundary.Meaning.{surface-once, surface-else}
-use Rattle.repair.specs.Mesh.{Mesh, Result, made, refused, measure}
+use Rattle.repair.specs.Mesh.{Mesh, Result, made, refused}
 use Rattle.repair.specs.Improve
 use Rattle.repair.specs.Smooth
 use Rattle.repair.specs.Flip
 use Rattle.repair.specs.Step.{State, Call, Pass, meshOf, resultOf, finish, step, run}
 use Rattle.repair.specs.Wholeness.{single, IsBoundary, Closed, StaysClosed}
-use Rattle.repair.proofs.Laws.Improve.Keeps.{improve-made}
+use Rattle.repair.proofs.Laws.Improve.Keeps.{lastBy, made-by}
 use Rattle.repair.proofs.Laws.Improve.Buffers.{committed-elements, committed-surface}
 use Rattle.repair.proofs.Laws.Improve.Calls.{outcome, outcome-made}
 
@@ -41,35 +43,35 @@ abbrev meshIn : Mesh → Result → Mesh
 meshIn m (made count n) = n
 meshIn m (refused number) = m
 
-improve-closed : (c : Call) (m n : Mesh) (count : ℕ) → Improve.improve (c .options) m ≡ made count n → IsBoundary (n .elements) (n .surface)
+improve-closed : (μ : Measure) (o : Options) (m n : Mesh) (count : ℕ) → Improve.improveBy μ o m ≡ made count n → IsBoundary (n .elements) (n .surface)
 unfolding Improve.renumbered
-improve-closed c m n count r =
-    let q = improve-made (c .options) m n count r in
-    subst (λ u. IsBoundary (u .elements) (u .surface)) (sym (q .mesh)) (boundary-closed (Improve.renumbered m (Improve.rounds (c .options) m (measure (m .points)) (c .options .passes) (record { elements = m .elements; replaced = [] }) .elements) .elements))
+improve-closed μ o m n count r =
+    let q = made-by μ o m n count r in
+    subst (λ u. IsBoundary (u .elements) (u .surface)) (sym (q .mesh)) (boundary-closed (Improve.renumbered m (lastBy μ o m .elements) .elements))
 
 smooth-closed : (c : Call) (m n : Mesh) (count : ℕ) → Smooth.smooth (c .options) (take (c .count) (c .fields)) (c .regions) m ≡ made count n → IsBoundary (m .elements) (m .surface) → IsBoundary (n .elements) (n .surface)
 unfolding Smooth.smooth
 smooth-closed c m n count r h = subst₂ (λ ts fs. IsBoundary ts fs) (ap (λ u. meshIn m u .elements) r) (ap (λ u. meshIn m u .surface) r) h
 
-flip-closed : (m n : Mesh) (count : ℕ) → Flip.flip m ≡ made count n → IsBoundary (n .elements) (n .surface)
-unfolding Flip.flip
-flip-closed m n count r = by (eqb (Flip.endNumber (m .surface) ts) 0) r
+flip-closed : (μ : Measure) (m n : Mesh) (count : ℕ) → Flip.flipBy μ m ≡ made count n → IsBoundary (n .elements) (n .surface)
+unfolding Flip.flipBy
+flip-closed μ m n count r = by (eqb (Flip.endNumber (m .surface) ts) 0) r
   where
     ts : List Tet
-    ts = Flip.live (Flip.flips (measure (m .points)) (m .elements) .slots)
+    ts = Flip.live (Flip.flips μ (m .elements) .slots)
 
     flipped : Mesh
     flipped = record { parameters = m .parameters; points = m .points; masks = m .masks; elements = ts; surface = boundaryOf ts }
 
-    by : (t : Bool) → cond t (made (Flip.flips (measure (m .points)) (m .elements) .flips) flipped) (refused (Flip.endNumber (m .surface) ts)) ≡ made count n → IsBoundary (n .elements) (n .surface)
+    by : (t : Bool) → cond t (made (Flip.flips μ (m .elements) .flips) flipped) (refused (Flip.endNumber (m .surface) ts)) ≡ made count n → IsBoundary (n .elements) (n .surface)
     by true r = subst (λ u. IsBoundary (u .elements) (u .surface)) (ap (meshIn m) r) (boundary-closed ts)
     by false r = absurd (let z : _≡_ {A = ℕ} 0 1 = cc in omega arith)
 
 pass-closed : (p : Pass) (c : Call) (m n : Mesh) (count : ℕ) → resultOf p c m ≡ made count n → IsBoundary (m .elements) (m .surface) → IsBoundary (n .elements) (n .surface)
-unfolding resultOf
-pass-closed Pass.improve c m n count r h = improve-closed c m n count r
+unfolding resultOf Improve.improve Flip.flip
+pass-closed Pass.improve c m n count r h = improve-closed (measure (m .points)) (c .options) m n count r
 pass-closed Pass.smooth c m n count r h = smooth-closed c m n count r h
-pass-closed Pass.flip c m n count r h = flip-closed m n count r
+pass-closed Pass.flip c m n count r h = flip-closed (measure (m .points)) m n count r
 
 -- ---- calls
 

@@ -18,8 +18,9 @@ use Rattle.mesh.specs.Complex.{mem, Nodup, Proper}
 use Rattle.mesh.specs.Tests.{every, nodup}
 use Rattle.mesh.specs.Element.{verticesOf}
 use Rattle.mesh.specs.Group.{numbers, sameRanks, rankOf, groupOf}
+use Rattle.mesh.specs.Measure.{Measure, measure}
 use Rattle.mesh.proofs.Laws.Complex.Sets.{split, nope, clash, or-cases, and-fst, and-snd, mem-here, mem-there, mem-cases, mem-nil, keep-mem, keep-nodup}
-use Rattle.repair.specs.Mesh.{Mesh, made, Measure, measure, has}
+use Rattle.repair.specs.Mesh.{Mesh, made, has}
 use Rattle.repair.specs.Improve.{State, capOf, stratumRule, activeGroup, partner, partners, pairOff, pairOk, about, collapsed, gains, listedEdges, pairsFor, mayGo, go, tryEdge, tryEdges, round, rounds, improve}
 use Rattle.repair.proofs.Laws.Improve.Single.{Distinct, size, ranks-refl}
 use Rattle.repair.proofs.Laws.Improve.Edges.{joins, listed-join}

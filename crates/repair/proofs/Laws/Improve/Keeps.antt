@@ -25,10 +25,11 @@ use Rattle.mesh.specs.Tests.{every}
 use Rattle.mesh.specs.Element.{verticesOf, keyOf}
 use Rattle.mesh.specs.Boundary.{allFaces, withKey}
 use Rattle.mesh.specs.Intake.{sizedPoint}
+use Rattle.mesh.specs.Measure.{Measure, measure, determinantOf, scoreOf, lowestOf}
 use Rattle.mesh.proofs.Laws.Complex.Sets.{mem-nil}
 use Rattle.mesh.proofs.Laws.Complex.Steps.{run-keeps, run-alternating}
-use Rattle.repair.specs.Mesh.{Mesh, made, refused, measure, determinantOf, scoreOf, lowestOf}
-use Rattle.repair.specs.Improve.{State, imageOf, placeOf, rounds, renumbered, endNumber, improve}
+use Rattle.repair.specs.Mesh.{Mesh, made, refused}
+use Rattle.repair.specs.Improve.{State, imageOf, placeOf, rounds, renumbered, endNumber, improveBy, improve}
 use Rattle.repair.specs.Wholeness.{OneOrTwo, Exact}
 use Rattle.repair.proofs.Laws.Improve.Single.{Distinct, size}
 use Rattle.repair.proofs.Laws.Improve.Uses.{uses, renumber-step, points-kept}
@@ -79,24 +80,31 @@ module _ (m : Mesh) (S : Sound m) where
 
 -- ---- the end
 
--- where the rounds of an `improve` end
-abbrev pub last : Options → Mesh → State
-last o m = rounds o m (measure (m .points)) (o .passes) (record { elements = m .elements; replaced = [] })
+-- where the rounds of an `improve` end, by a measure and by that of its points
+abbrev pub lastBy : Measure → Options → Mesh → State
+lastBy μ o m = rounds o m μ (o .passes) (record { elements = m .elements; replaced = [] })
 
-pub record Made (o : Options) (m n : Mesh) (count : ℕ) : Type 0 where
-  pub counts : count ≡ length (last o m .replaced)
-  pub mesh : n ≡ renumbered m (last o m .elements)
-  pub end : endNumber (renumbered m (last o m .elements)) ≡ 0
+abbrev pub last : Options → Mesh → State
+last o m = lastBy (measure (m .points)) o m
+
+pub record Made (μ : Measure) (o : Options) (m n : Mesh) (count : ℕ) : Type 0 where
+  pub counts : count ≡ length (lastBy μ o m .replaced)
+  pub mesh : n ≡ renumbered m (lastBy μ o m .elements)
+  pub end : endNumber (renumbered m (lastBy μ o m .elements)) ≡ 0
 
 -- what `improve` made: the count is the number of vertices replaced, the mesh the renumbered one, and no number applied
-pub improve-made : (o : Options) (m n : Mesh) (count : ℕ) → improve o m ≡ made count n → Made o m n count
-unfolding improve
-improve-made o m n count h = by (eqb (endNumber (renumbered m (last o m .elements))) 0) refl h
+pub made-by : (μ : Measure) (o : Options) (m n : Mesh) (count : ℕ) → improveBy μ o m ≡ made count n → Made μ o m n count
+unfolding improveBy
+made-by μ o m n count h = by (eqb (endNumber (renumbered m (lastBy μ o m .elements))) 0) refl h
   where
-    by : (t : Bool) → eqb (endNumber (renumbered m (last o m .elements))) 0 ≡ t
-        → cond t (made (length (last o m .replaced)) (renumbered m (last o m .elements))) (refused (endNumber (renumbered m (last o m .elements)))) ≡ made count n → Made o m n count
-    by true e h = record { counts = cc; mesh = cc; end = eqb-true (endNumber (renumbered m (last o m .elements))) 0 e }
+    by : (t : Bool) → eqb (endNumber (renumbered m (lastBy μ o m .elements))) 0 ≡ t
+        → cond t (made (length (lastBy μ o m .replaced)) (renumbered m (lastBy μ o m .elements))) (refused (endNumber (renumbered m (lastBy μ o m .elements)))) ≡ made count n → Made μ o m n count
+    by true e h = record { counts = cc; mesh = cc; end = eqb-true (endNumber (renumbered m (lastBy μ o m .elements))) 0 e }
     by false e h = absurd (let z : _≡_ {A = ℕ} 0 1 = cc in omega arith)
+
+pub improve-made : (o : Options) (m n : Mesh) (count : ℕ) → improve o m ≡ made count n → Made (measure (m .points)) o m n count
+unfolding improve
+improve-made o m n count h = made-by (measure (m .points)) o m n count h
 
 module _ (o : Options) (m : Mesh) (S : Sound m) (d : Distinct o (m .parameters)) where
   pub last-kept : Kept (size m) (map verticesOf (m .elements)) (measure (m .points)) (floorUnits m) (last o m)

@@ -12,8 +12,9 @@ use Rattle.geometry.specs.Bounds.{spacing}
 use Rattle.mesh.specs.declared.element.Pair.{Pair}
 use Rattle.mesh.specs.Complex.{mem}
 use Rattle.mesh.specs.Tests.{every}
+use Rattle.mesh.specs.Measure.{Measure}
 use Rattle.mesh.proofs.Laws.Complex.Sets.{split, nope, clash, or-left, or-right, and-fst, and-snd}
-use Rattle.repair.specs.Mesh.{Mesh, Measure}
+use Rattle.repair.specs.Mesh.{Mesh}
 use Rattle.repair.specs.Improve.{State, listedEdges, mayGo, go, tryEdge, tryEdges, round, rounds}
 use Rattle.repair.proofs.Laws.Improve.Edges.{joins}
 

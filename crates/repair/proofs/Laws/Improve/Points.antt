@@ -13,10 +13,10 @@ use Rattle.mesh.specs.declared.element.Tet.{Tet}
 use Rattle.mesh.specs.Words.{pointAt, zeroPoint}
 use Rattle.mesh.specs.Tests.{every}
 use Rattle.mesh.specs.Intake.{sizedPoint}
+use Rattle.mesh.specs.Measure.{scoreOf}
 use Rattle.mesh.proofs.Laws.Complex.Sets.{and-fst, and-snd}
 use Rattle.repair.proofs.Laws.Smooth.Scores.{score-fits, is-true}
 use Rattle.repair.proofs.Laws.Smooth.Sizes.{sized-near}
-use Rattle.repair.specs.Mesh.{scoreOf}
 use Rattle.repair.specs.Wholeness.{Exact}
 
 -- ---- within 2 ^ 20

@@ -19,10 +19,11 @@ use Rattle.mesh.specs.Tests.{nodup}
 use Rattle.mesh.specs.Moves.{Run, then}
 use Rattle.mesh.specs.Element.{pair, tet, verticesOf}
 use Rattle.mesh.specs.Feature.{linkOk}
+use Rattle.mesh.specs.Measure.{Measure}
 use Rattle.mesh.proofs.Laws.Complex.Sets.{split, nope, clash, or-left, and-fst, and-snd, mem-cases, out-head, out-tail}
 use Rattle.mesh.proofs.Laws.Complex.Steps.{run-keeps}
 use Rattle.mesh.proofs.Laws.Link.Members.{kept-elim, kept-intro}
-use Rattle.repair.specs.Mesh.{Mesh, Measure, any, has}
+use Rattle.repair.specs.Mesh.{Mesh, any, has}
 use Rattle.repair.specs.Improve.{State, stratumOf, stratumRule, image, imageOf, about, collapsed, go, rounds}
 use Rattle.repair.specs.Wholeness.{Exact}
 use Rattle.repair.proofs.Laws.Improve.Single.{Distinct, size, Goes, goes}

@@ -18,9 +18,9 @@ use Rattle.geometry.proofs.Laws.Float.Units.{lt-units}
 use Rattle.geometry.proofs.Laws.Float.Tolerance.{tolerance}
 use Rattle.mesh.specs.declared.element.Tet.{Tet}
 use Rattle.mesh.specs.Tests.{every}
+use Rattle.mesh.specs.Measure.{Measure, lowestOf}
 use Rattle.mesh.proofs.Laws.Complex.Sets.{split, and-fst, and-snd}
 use Rattle.mesh.proofs.Laws.Link.Members.{every-elim}
-use Rattle.repair.specs.Mesh.{Measure, lowestOf}
 use Rattle.repair.specs.Improve.{gains}
 use Rattle.repair.specs.Wholeness.{Exact}
 

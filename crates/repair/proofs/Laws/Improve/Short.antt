@@ -14,8 +14,9 @@ use Rattle.mesh.specs.Tests.{every}
 use Rattle.mesh.specs.Element.{samePair}
 use Rattle.mesh.specs.List as slots
 use Rattle.mesh.specs.Short.{short, leEdge, shortEdges}
+use Rattle.mesh.specs.Measure.{measure, isBad}
 use Rattle.mesh.proofs.Laws.Bools.{and-left, and-right}
-use Rattle.repair.specs.Mesh.{measure, edgesOf, allEdges, isBad}
+use Rattle.repair.specs.Mesh.{edgesOf, allEdges}
 use Rattle.repair.specs.Improve.{listedEdges}
 
 -- an element stands in every slot

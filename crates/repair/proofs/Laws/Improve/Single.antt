@@ -17,8 +17,9 @@ use Rattle.mesh.specs.Tests.{every}
 use Rattle.mesh.specs.Element.{pair}
 use Rattle.mesh.specs.Group.{numbers, sameRanks, rankOf, groupOf}
 use Rattle.mesh.specs.declared.element.Pair.{Pair}
+use Rattle.mesh.specs.Measure.{Measure}
 use Rattle.mesh.proofs.Laws.Complex.Sets.{split, nope, and-fst, and-snd}
-use Rattle.repair.specs.Mesh.{Mesh, Measure}
+use Rattle.repair.specs.Mesh.{Mesh}
 use Rattle.repair.specs.Improve.{State, capOf, stratumRule, activeGroup, partner, partners, pairOff, pairOk, about, collapsed, gains, pairsFor, mayGo}
 
 -- no two vertices have the same rank in all three directions

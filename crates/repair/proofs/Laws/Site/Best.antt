@@ -8,7 +8,7 @@ use native.Mathlib.Omega.{arith}
 use borrow.Author.Tests.{ne-eqb}
 use lib.Dec.{eqb}
 use lib.Ieee.{Float, lt}
-use lib.ListN.{length, drop}
+use lib.ListN.{length, take, drop}
 use lib.Seq.{drop-cons}
 use Rattle.geometry.specs.declared.point.Point.{Point}
 use Rattle.geometry.specs.declared.bounds.Options.{Options}
@@ -18,17 +18,26 @@ use Rattle.geometry.specs.Float.{_+₆₄_}
 use Rattle.geometry.specs.Literals.{e-10}
 use Rattle.mesh.specs.declared.element.Tet.{Tet}
 use Rattle.mesh.specs.Tests.{every}
+use Rattle.mesh.specs.Measure.{measure, lowestOf}
 use Rattle.repair.specs.declared.trial.Trial.{Trial}
 use Rattle.repair.specs.declared.best.Best.{Best}
 use Rattle.repair.specs.declared.best.Start.{Start}
 use Rattle.repair.specs.declared.project.Projected.{Projected}
 use Rattle.repair.specs.declared.project.Projected.the-variants.{Found, Nothing}
-use Rattle.repair.specs.Mesh.{measure, lowestOf}
 use Rattle.repair.specs.Project.{project}
 use Rattle.repair.specs.Smooth as Smooth
-use Rattle.repair.specs.Smooth.{State, mean, meanCandidates, stepCandidates, moveTo, better, tried, bestOf}
+use Rattle.repair.specs.Smooth.{State, mean, meanCandidates, stepCandidates, moveTo, better, allowed, tried, bestOf}
 use Rattle.repair.specs.Regions.{allowedBy, nine, candidateAt}
-use Rattle.repair.specs.Site.{stateOf, bestIn, replaced, firstOf, startList}
+use Rattle.repair.specs.Site.{stateOf, bestIn, replaced, permitted, compared, firstOf, startList}
+
+-- ---- the active fields
+
+-- as many as were counted, of a list that begins with them
+pub active-is : (A : List Field) (m : ℕ) {C : List Field} → m ≡ length C → take (length C) A ≡ C → take m A ≡ C
+active-is A m e f = ap (λ n. take n A) e ∙ f
+
+pub active-long : (A : List Field) (m : ℕ) {C : List Field} → m ≡ length C → take (length C) A ≡ C → length (take m A) ≡ m
+active-long A m e f = ap length (active-is A m e f) ∙ sym e
 
 -- ---- one candidate
 
@@ -55,23 +64,27 @@ replaced-is ts ps best p t e f = go (t .better) (t .lowest) e f
     go true low e f = rw (sym e, sym (f refl)) refl
     go false low e f = rw (sym e) refl
 
-module _ (o : Options) (fields : List Field) (regions : Option (List ℕ)) (ts : List Tet) (s : State) (g : List ℕ) (origin : Point) (active : List Field) where
-  -- a candidate that may be taken
-  pub tried-found : (best : Best) (p : Point) (t : Trial) (r : Best) (m : ℕ) → length active ≡ m → allowedBy o fields regions origin (eqb m 0) p ≡ true
-      → t .better ≡ (every (measure (moveTo o s g p .points) .above) ts && lt (best .lowest +₆₄ e-10) (lowestOf (measure (moveTo o s g p .points)) ts))
-      → (t .better ≡ true → t .lowest ≡ lowestOf (measure (moveTo o s g p .points)) ts)
-      → r ≡ replaced best p t → bestIn r ≡ tried o fields regions ts s g origin active (bestIn best) (Found p)
-  tried-found best p t r m n a e f q =
-      ap bestIn q ∙ replaced-is ts (moveTo o s g p .points) best p t e f
-      ∙ sym (ap (λ (b : Bool). cond b (better ts (moveTo o s g p .points) p (bestIn best)) (bestIn best))
-      (ap (λ (k : ℕ). allowedBy o fields regions origin (eqb k 0) p) n ∙ a))
+-- whether a point that was found is permitted
+pub permitted-by : (o : Options) (fields : List Field) (regions : Option (List ℕ)) (origin : Point) (active : List Field) (p : Point) (m : ℕ) (b : Bool) → length active ≡ m
+    → allowedBy o fields regions origin (eqb m 0) p ≡ b → cond b (Found p) Nothing ≡ permitted o fields regions origin active (Found p)
+permitted-by o fields regions origin active p m b n a =
+    sym (ap (λ (t : Bool). cond t (Found p) Nothing) (ap (λ (k : ℕ). allowedBy o fields regions origin (eqb k 0) p) n ∙ a))
 
-  -- one that may not
-  pub tried-refused : (best : Best) (p : Point) (m : ℕ) → length active ≡ m → allowedBy o fields regions origin (eqb m 0) p ≡ false
-      → bestIn best ≡ tried o fields regions ts s g origin active (bestIn best) (Found p)
-  tried-refused best p m n a =
-      sym (ap (λ (b : Bool). cond b (better ts (moveTo o s g p .points) p (bestIn best)) (bestIn best))
-      (ap (λ (k : ℕ). allowedBy o fields regions origin (eqb k 0) p) n ∙ a))
+-- a point that is tried
+pub compared-found : (o : Options) (ts : List Tet) (s : State) (g : List ℕ) (best : Best) (p : Point) (t : Trial) (r : Best)
+    → t .better ≡ (every (measure (moveTo o s g p .points) .above) ts && lt (best .lowest +₆₄ e-10) (lowestOf (measure (moveTo o s g p .points)) ts))
+    → (t .better ≡ true → t .lowest ≡ lowestOf (measure (moveTo o s g p .points)) ts) → r ≡ replaced best p t → bestIn r ≡ compared o ts s g (bestIn best) (Found p)
+compared-found o ts s g best p t r e f q = ap bestIn q ∙ replaced-is ts (moveTo o s g p .points) best p t e f
+
+module _ (o : Options) (fields : List Field) (regions : Option (List ℕ)) (ts : List Tet) (s : State) (g : List ℕ) (origin : Point) (active : List Field) where
+  -- both are the definition's one step
+  pub tried-is : (best : Smooth.Best) (q : Projected) → compared o ts s g best (permitted o fields regions origin active q) ≡ tried o fields regions ts s g origin active best q
+  tried-is best Nothing = refl
+  tried-is best (Found p) = go (allowed o fields regions origin active p)
+    where
+      go : (b : Bool) → compared o ts s g best (cond b (Found p) Nothing) ≡ cond b (better ts (moveTo o s g p .points) p best) best
+      go true = refl
+      go false = refl
 
   -- ---- the candidates from the k-th on
 

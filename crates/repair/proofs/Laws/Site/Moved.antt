@@ -19,7 +19,7 @@ use Rattle.mesh.proofs.Laws.Complex.Sets.{split, mem-cases, clash}
 use Rattle.mesh.proofs.Laws.Intake.Reads.{length-points}
 use Rattle.repair.specs.declared.trial.Site.{Site}
 use Rattle.repair.specs.Smooth.{keptOn, placed, moveTo}
-use Rattle.repair.specs.Site.{members, trialPoints, Put, Placed, newPoint}
+use Rattle.repair.specs.Site.{members, trialPoints, Put, Placed, newParameters, newPoint}
 use Rattle.repair.proofs.Laws.Smooth.Placed.{length-placed, placed-other}
 
 -- ---- the point of a vertex afterwards
@@ -58,7 +58,7 @@ module _ (o : Options) (parameters points : List Float) (w : List ℕ) (s : Site
 
   -- a vertex of the group
   pub trial-at : v < s .vertices → mem v (members w (s .group) (s .count)) ≡ true
-      → keptOn o (pointAt (pointsOf (s .vertices) parameters) v) p ≡ pointAt (trialPoints o parameters points w s p) v
+      → newPoint o (s .vertices) parameters p v ≡ pointAt (trialPoints o parameters points w s p) v
   unfolding trialPoints moveTo
   trial-at h m =
       sym (placed-at (newPoint o (s .vertices) parameters p) (members w (s .group) (s .count)) (pointsOf (s .vertices) points) v m
@@ -151,7 +151,7 @@ module _ (w : List ℕ) (at count : ℕ) where
 
   -- a vertex that is not placed yet has its old parameters
   pub still-old : (o : Options) (nv : ℕ) (p : Point) (new : ℕ → Point) (s t : List Float) (k : ℕ) → Nodup (members w at count) → k < count
-      → Placed nv new (tail (k + 1)) s t → newPoint o nv t p (wordAt w (at + 7 * k)) ≡ newPoint o nv s p (wordAt w (at + 7 * k))
+      → Placed nv new (tail (k + 1)) s t → newParameters o nv t p (wordAt w (at + 7 * k)) ≡ newParameters o nv s p (wordAt w (at + 7 * k))
   still-old o nv p new s t k n h P =
       let v = wordAt w (at + 7 * k) in
       ap (λ l. keptOn o (pointAt l v) p) (P .points) ∙ ap (λ q. keptOn o q p) (placed-other new (tail (k + 1)) (pointsOf nv s) v (nodup-at n k h))

@@ -16,21 +16,23 @@ use Rattle.geometry.specs.declared.bounds.Options.{Options}
 use Rattle.geometry.specs.declared.field.Field.{Field}
 use Rattle.geometry.specs.Literals.{fifteenHundredths}
 use Rattle.mesh.specs.declared.intake.Sizes.{Sizes}
+use Rattle.mesh.specs.declared.intake.Settings.{Settings}
 use Rattle.mesh.specs.declared.star.Index.{Index}
 use Rattle.mesh.specs.Words.{pointsOf, zeroWords}
 use Rattle.mesh.specs.Tests.{every}
 use Rattle.mesh.specs.Element.{tets}
 use Rattle.mesh.specs.Group.{groups}
 use Rattle.mesh.specs.Intake.{wellNumbered, givenOf, intake}
+use Rattle.mesh.specs.Measure.{measure, lowestOf}
 use Rattle.mesh.proofs.Laws.Intake.Reads.{length-tets, length-points}
 use Rattle.mesh.proofs.Laws.Intake.Table.{zeros-again}
 use Rattle.repair.specs.declared.answer.Answer.{Answer}
 use Rattle.repair.specs.declared.answer.Answer.the-variants.{Done, Refused}
-use Rattle.repair.specs.Mesh.{Mesh, made, refused, measure, lowestOf}
+use Rattle.repair.specs.Mesh.{Mesh, made, refused}
 use Rattle.repair.specs.Smooth as Smooth
 use Rattle.repair.specs.Smooth.{aboutGroup, bestFor, taken, smoothGroup, smoothGroups}
 use Rattle.repair.specs.Step as Step
-use Rattle.repair.specs.Step.{Call, Pass, triplesOf, meshOf, floatsOf, elementWords, tripleWords, over, committed, given, lengthsOf, resultOf, step}
+use Rattle.repair.specs.Step.{Call, Pass, held, callOf, triplesOf, meshOf, floatsOf, elementWords, tripleWords, over, committed, given, lengthsOf, resultOf, step}
 use Rattle.repair.specs.Site.{stateOf, Turned, meshRead, meshFor}
 use Rattle.repair.proofs.Laws.Improve.Intake.{Passed, intake-passed}
 use Rattle.repair.proofs.Laws.Lengths.{LongEnough, long-enough}
@@ -125,18 +127,18 @@ work-zeros e m w p h l z q =
 
 -- ---- the call
 
-module _ (sizes : Sizes) (o : Options) (count : ℕ) (fields : List Field) (R : Option (List ℕ)) (P Q : List Float) (masks els surface work : List ℕ) (floats : List Float) where
+module _ (s : Settings) (fields : List Field) (R : Option (List ℕ)) (P Q : List Float) (masks els surface work : List ℕ) (floats : List Float) where
   -- the call, and the buffers before it
   abbrev pub call : Call
-  call = record { pass = Pass.smooth; options = o; fields = fields; count = count; regions = R; words = length work; floats = length floats }
+  call = callOf Pass.smooth s fields R work floats
 
   abbrev pub buffers : List Float → List Float → Step.State
-  buffers P Q = record { parameters = P; points = Q; masks = masks; elements = els; surface = surface; sizes = sizes }
+  buffers P Q = held (s .sizes) P Q masks els surface
 
   abbrev number : ℕ
   number = intake (given (lengthsOf call (buffers P Q)) call (buffers P Q))
 
-  module _ (k : ℕ) (e : k ≡ intake (givenOf sizes o count fields P Q masks els surface work floats)) where
+  module _ (k : ℕ) (e : k ≡ intake (givenOf s fields P Q (length masks) els (length surface) work floats)) where
     number-is : k ≡ number
     unfolding given givenOf meshOf
     number-is = e
@@ -153,45 +155,45 @@ module _ (sizes : Sizes) (o : Options) (count : ℕ) (fields : List Field) (R : 
       passed : Passed (given (lengthsOf call (buffers P Q)) call (buffers P Q))
       passed = intake-passed (given (lengthsOf call (buffers P Q)) call (buffers P Q)) (sym number-is ∙ z)
 
-      pub fits : LongEnough sizes (lengthsOf call (buffers P Q))
+      pub fits : LongEnough (s .sizes) (lengthsOf call (buffers P Q))
       unfolding given
-      fits = long-enough sizes (lengthsOf call (buffers P Q)) (passed .few) (passed .long)
+      fits = long-enough (s .sizes) (lengthsOf call (buffers P Q)) (passed .few) (passed .long)
 
-      pub numbered : every (wellNumbered (sizes .vertices)) (tets (sizes .elements) els) ≡ true
+      pub numbered : every (wellNumbered (s .sizes .vertices)) (tets (s .sizes .elements) els) ≡ true
       unfolding given meshOf
       numbered = passed .numbered
 
       -- all groups had their turn
       module _ (P′ Q′ : List Float) (moved : ℕ)
-          (T : Turned (sizes .vertices) (smoothGroups o (take count fields) R (meshRead (sizes .vertices) (sizes .elements) masks els) (stateOf (sizes .vertices) P Q 0)
-          (groups o (pointsOf (sizes .vertices) P))) P Q P′ Q′ moved) where
+          (T : Turned (s .sizes .vertices) (smoothGroups (s .options) (take (s .count) fields) R (meshRead (s .sizes .vertices) (s .sizes .elements) masks els) (stateOf (s .sizes .vertices) P Q 0)
+          (groups (s .options) (pointsOf (s .sizes .vertices) P))) P Q P′ Q′ moved) where
         nv : ℕ
-        nv = sizes .vertices
+        nv = s .sizes .vertices
 
         m : Mesh
         m = meshOf (buffers P Q)
 
         F : List Field
-        F = take count fields
+        F = take (s .count) fields
 
         -- the same turn of the whole mesh
-        T′ : Turned nv (smoothGroups o F R m (stateOf nv P Q 0) (groups o (pointsOf nv P))) P Q P′ Q′ moved
+        T′ : Turned nv (smoothGroups (s .options) F R m (stateOf nv P Q 0) (groups (s .options) (pointsOf nv P))) P Q P′ Q′ moved
         unfolding nv m F meshOf
         T′ =
-            subst (λ (u : Smooth.State). Turned (sizes .vertices) u P Q P′ Q′ moved)
-            (sym (groups-only o (take count fields) R (meshOf (buffers P Q)) (stateOf (sizes .vertices) P Q 0) (groups o (pointsOf (sizes .vertices) P)))) T
+            subst (λ (u : Smooth.State). Turned (s .sizes .vertices) u P Q P′ Q′ moved)
+            (sym (groups-only (s .options) (take (s .count) fields) R (meshOf (buffers P Q)) (stateOf (s .sizes .vertices) P Q 0) (groups (s .options) (pointsOf (s .sizes .vertices) P)))) T
 
         -- what the pass makes
         result : Mesh
         result = record { parameters = pointsOf nv P′; points = pointsOf nv Q′; masks = m .masks; elements = m .elements; surface = m .surface }
 
-        result-is : Smooth.smooth o F R m ≡ made moved result
+        result-is : Smooth.smooth (s .options) F R m ≡ made moved result
         unfolding Smooth.smooth result nv m F meshOf
-        result-is = ap (λ (s : Smooth.State). made (s .moved) (record { parameters = s .parameters; points = s .points; masks = take (sizes .vertices) masks; elements = tets (sizes .elements) els; surface = triplesOf (sizes .triples) surface })) (sym (T′ .state))
+        result-is = ap (λ (u : Smooth.State). made (u .moved) (record { parameters = u .parameters; points = u .points; masks = take (s .sizes .vertices) masks; elements = tets (s .sizes .elements) els; surface = triplesOf (s .sizes .triples) surface })) (sym (T′ .state))
 
-        sizes-are : Step.sizesOf result ≡ sizes
+        sizes-are : Step.sizesOf result ≡ s .sizes
         unfolding result nv m meshOf
-        sizes-are = λ j. record { vertices = length-points (sizes .vertices) Q′ j; elements = length-tets (sizes .elements) els j; triples = length-triples (sizes .triples) surface j }
+        sizes-are = λ j. record { vertices = length-points (s .sizes .vertices) Q′ j; elements = length-tets (s .sizes .elements) els j; triples = length-triples (s .sizes .triples) surface j }
 
         floats-are : (S S′ : List Float) → 3 * nv ≤ length S → length S′ ≡ length S → drop (3 * nv) S′ ≡ drop (3 * nv) S → over (floatsOf (pointsOf nv S′)) S ≡ S′
         floats-are S S′ h l e = over-is (floatsOf (pointsOf nv S′)) S S′ (3 * nv) (omega (arith, h, l)) (floats-front nv S′ (omega (arith, h, l))) e
@@ -202,16 +204,16 @@ module _ (sizes : Sizes) (o : Options) (count : ℕ) (fields : List Field) (R : 
             let f = fits in
             let a = floats-are P P′ (f .parameters) (T′ .long .0) (T′ .parameters) in
             let b = floats-are Q Q′ (f .points) (T′ .long .1) (T′ .points) in
-            let c = over-is (take (sizes .vertices) masks) masks masks (sizes .vertices) (f .masks) refl refl in
-            let e₁ : 4 * sizes .elements ≤ length els = omega (arith, f .slots) in
-            let e₂ : 3 * sizes .triples ≤ length surface = omega (arith, f .triples, f .surface) in
-            let d = over-is (elementWords (tets (sizes .elements) els)) els els (4 * sizes .elements) e₁ (elements-front (sizes .elements) els e₁) refl in
-            let g = over-is (tripleWords (triplesOf (sizes .triples) surface)) surface surface (3 * sizes .triples) e₂ (triples-front (sizes .triples) surface e₂) refl in
+            let c = over-is (take (s .sizes .vertices) masks) masks masks (s .sizes .vertices) (f .masks) refl refl in
+            let e₁ : 4 * s .sizes .elements ≤ length els = omega (arith, f .slots) in
+            let e₂ : 3 * s .sizes .triples ≤ length surface = omega (arith, f .triples, f .surface) in
+            let d = over-is (elementWords (tets (s .sizes .elements) els)) els els (4 * s .sizes .elements) e₁ (elements-front (s .sizes .elements) els e₁) refl in
+            let g = over-is (tripleWords (triplesOf (s .sizes .triples) surface)) surface surface (3 * s .sizes .triples) e₂ (triples-front (s .sizes .triples) surface e₂) refl in
             λ j. record { parameters = a j; points = b j; masks = c j; elements = d j; surface = g j; sizes = sizes-are j }
 
-        pub pass-done : _≡_ {A = Answer × Step.State} (Done moved sizes, buffers P′ Q′) (step call (buffers P Q))
+        pub pass-done : _≡_ {A = Answer × Step.State} (Done moved (s .sizes), buffers P′ Q′) (step call (buffers P Q))
         unfolding step resultOf m F
         pass-done =
-            sym (ap (λ j. Step.finish (buffers P Q) (cond (eqb j 0) (Smooth.smooth o F R m) (refused j))) (sym number-is ∙ z)
+            sym (ap (λ j. Step.finish (buffers P Q) (cond (eqb j 0) (Smooth.smooth (s .options) F R m) (refused j))) (sym number-is ∙ z)
             ∙ ap (Step.finish (buffers P Q)) result-is
             ∙ ap₂ (λ (a : Sizes) (b : Step.State). (Done moved a, b)) sizes-are buffers-are)

@@ -14,7 +14,7 @@ use Rattle.mesh.specs.Words.{wordAt}
 use Rattle.mesh.specs.Complex.{mem}
 use Rattle.mesh.specs.Tests.{every}
 use Rattle.mesh.specs.Intake.{tetAt}
-use Rattle.repair.specs.Mesh.{measure, scoreOf, lowestOf}
+use Rattle.mesh.specs.Measure.{measure, scoreOf, lowestOf}
 use Rattle.repair.specs.Site.{members, about}
 
 -- ---- vertices of a group

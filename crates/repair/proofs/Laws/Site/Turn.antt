@@ -21,15 +21,15 @@ use Rattle.mesh.specs.Words.{wordAt, pointAt, pointsOf}
 use Rattle.mesh.specs.Complex.{Nodup}
 use Rattle.mesh.specs.Tests.{under}
 use Rattle.mesh.specs.Element.{tets}
+use Rattle.mesh.specs.Measure.{measure, lowestOf}
 use Rattle.mesh.proofs.Laws.Complex.Sets.{and-fst}
 use Rattle.mesh.proofs.Laws.Intake.Reads.{length-points}
 use Rattle.repair.specs.declared.trial.Site.{Site}
 use Rattle.repair.specs.declared.best.Best as Found
 use Rattle.repair.specs.declared.best.Start.{Start}
-use Rattle.repair.specs.Mesh.{measure, lowestOf}
 use Rattle.repair.specs.Smooth.{State, Best, chosen, neighbours, meanCandidates, stepCandidates, moveTo, bestOf, aboutGroup, bestFor, taken, smoothGroup}
 use Rattle.repair.specs.Layout.{slotsIn}
-use Rattle.repair.specs.Site.{members, about, InRange, stateOf, Placed, newPoint, Turned, bestIn, noneYet, startList, SameTo, Ready, Slots, Rows, Listed, Sited, Started, meshFor}
+use Rattle.repair.specs.Site.{members, about, InRange, stateOf, Placed, newParameters, newPoint, Turned, bestIn, noneYet, startList, SameTo, Ready, Slots, Rows, Listed, Sited, Started, meshFor}
 use Rattle.repair.proofs.Laws.Site.Best.{start-candidates, best-moved}
 use Rattle.repair.proofs.Laws.Site.Work.{same-less, ready-kept, slots-kept, about-kept, group-same, group-kept}
 
@@ -86,26 +86,25 @@ module _ (o : Options) (F : List Field) (R : Option (List ℕ)) (x : Index) (mas
   pub work-same : (w₁ : List ℕ) → SameTo (x .area + s .about) w w₁ → SameTo (x .area) w w₁
   work-same w₁ e = same-less (x .area) (x .area + s .about) w w₁ (omega arith) e
 
-  pub best-is : (w₁ : List ℕ) (st : Start) (lowest : Float) (A : List Field) (m mask : ℕ) (b : Best)
+  pub best-is : (w₁ : List ℕ) (st : Start) (lowest : Float) (mask : ℕ) (b : Best)
       → Started o x P (wordAt w (s .group)) (s .about) w w₁ st → mask ≡ wordAt masks (wordAt w (s .group))
-      → m ≡ length (chosen mask F) → take (length (chosen mask F)) A ≡ chosen mask F
       → lowest ≡ lowestOf (measure (pointsOf (s .vertices) Q)) (about els w (s .area) (s .about))
-      → b ≡ bestOf o F R (about els w₁ (s .area) (s .about)) (stateOf (s .vertices) P Q 0) (members w₁ (s .group) (s .count)) (st .origin) (take m A) (noneYet lowest) (startList st o)
+      → b ≡ bestOf o F R (about els w₁ (s .area) (s .about)) (stateOf (s .vertices) P Q 0) (members w₁ (s .group) (s .count)) (st .origin) (chosen mask F) (noneYet lowest) (startList st o)
       → b ≡ bestFor o F R (meshFor x masks els) (stateOf (x .vertices) P Q 0) (wordAt w (s .group)) g
   unfolding bestFor
-  best-is w₁ st lowest A m mask b T em e₁ e₂ e₃ e₄ =
+  best-is w₁ st lowest mask b T em e₁ e₂ =
       let nv = x .vertices in
       let v = wordAt w (s .group) in
       let f = pointAt (pointsOf nv P) in
       let ns : neighbours nv (slotsIn x (x .room) w) v ≡ neighbours (length (pointsOf nv P)) (tets (x .room) els) v =
       ap₂ (λ n t. neighbours n t v) (sym (length-points nv P)) (sym z) in
       let mk : mask ≡ getD (take nv masks) v 0 = em ∙ sym (getD-take nv masks v 0 (first-below x w (s .group) (s .count) (S .rows))) in
-      e₄ ∙ same-best o F R (about els w₁ (s .area) (s .about)) ts (stateOf (s .vertices) P Q 0) (stateOf nv P Q 0) (members w₁ (s .group) (s .count)) g
-      (st .origin) (canonical (f v) o) (take m A) (chosen (getD (take nv masks) v 0) F) (noneYet lowest) (noneYet (lowestOf (measure (pointsOf nv Q)) ts))
+      e₂ ∙ same-best o F R (about els w₁ (s .area) (s .about)) ts (stateOf (s .vertices) P Q 0) (stateOf nv P Q 0) (members w₁ (s .group) (s .count)) g
+      (st .origin) (canonical (f v) o) (chosen mask F) (chosen (getD (take nv masks) v 0) F) (noneYet lowest) (noneYet (lowestOf (measure (pointsOf nv Q)) ts))
       (startList st o) (meanCandidates (f v) (canonical (f v) o) (map f (neighbours (length (pointsOf nv P)) (tets (x .room) els) v)) ++ stepCandidates (canonical (f v) o) (spacing o))
       (same-about w₁ (T .same)) (ap (λ n. stateOf n P Q 0) (S .vertices)) (group-same x w w₁ r (work-same w₁ (T .same)) (s .group) (s .count) (S .rows)) (T .origin)
-      (ap (λ n. take n A) e₁ ∙ e₂ ∙ ap (λ n. chosen n F) mk)
-      (ap noneYet (e₃ ∙ ap₂ (λ n t. lowestOf (measure (pointsOf n Q)) t) (S .vertices) (S .found)))
+      (ap (λ n. chosen n F) mk)
+      (ap noneYet (e₁ ∙ ap₂ (λ n t. lowestOf (measure (pointsOf n Q)) t) (S .vertices) (S .found)))
       (start-candidates o f st (f v) (canonical (f v) o) (neighbours nv (slotsIn x (x .room) w) v) (T .original) (T .origin) (T .near) (T .mean)
       ∙ ap (λ l. meanCandidates (f v) (canonical (f v) o) (map f l) ++ stepCandidates (canonical (f v) o) (spacing o)) ns)
 
@@ -163,7 +162,7 @@ module _ (o : Options) (F : List Field) (R : Option (List ℕ)) (x : Index) (mas
 
     pub turn-moved : (b : Found.Best) (P′ Q′ : List Float) (m : ℕ) → lt lowestHere fifteenHundredths ≡ true
         → bestIn b ≡ bestFor o F R (meshFor x masks els) (stateOf (x .vertices) P Q 0) (wordAt w i) (members w i k) → b .found ≡ true
-        → Placed (x .vertices) (newPoint o (x .vertices) P (b .point)) (members w i k) P P′ → Placed (x .vertices) (newPoint o (x .vertices) P (b .point)) (members w i k) Q Q′
+        → Placed (x .vertices) (newParameters o (x .vertices) P (b .point)) (members w i k) P P′ → Placed (x .vertices) (newPoint o (x .vertices) P (b .point)) (members w i k) Q Q′
         → m ≡ moved + k → Turned (x .vertices) after P Q P′ Q′ m
     unfolding moveTo
     turn-moved b P′ Q′ m h e f p q n = record {
@@ -226,9 +225,9 @@ module _ (x : Index) (els : List ℕ) (i k : ℕ) (w w₁ : List ℕ) (s : Site)
     pub site-vertices : s .vertices ≡ x .vertices
     site-vertices = ap (λ (t : Site). t .vertices) (l .site)
 
-    pub site-placed : (o : Options) (p : Point) (P S T : List Float) → Placed (s .vertices) (newPoint o (s .vertices) P p) (members w₂ (s .group) (s .count)) S T
-        → Placed (x .vertices) (newPoint o (x .vertices) P p) (members w₁ i k) S T
-    site-placed o p P S T q = subst₂ (λ n h. Placed n (newPoint o n P p) h S T) site-vertices site-members q
+    pub site-placed : (new : ℕ → ℕ → Point) (S T : List Float) → Placed (s .vertices) (new (s .vertices)) (members w₂ (s .group) (s .count)) S T
+        → Placed (x .vertices) (new (x .vertices)) (members w₁ i k) S T
+    site-placed new S T q = subst₂ (λ n h. Placed n (new n) h S T) site-vertices site-members q
 
 -- ---- by other names
 
@@ -238,7 +237,3 @@ below-as {v} {u} {n} e h = subst (λ j. j < n) (sym e) h
 
 pub started-as : (o : Options) (x : Index) (P : List Float) (k : ℕ) (w w₁ : List ℕ) (s : Start) {v u : ℕ} → v ≡ u → Started o x P v k w w₁ s → Started o x P u k w w₁ s
 started-as o x P k w w₁ s e S = subst (λ j. Started o x P j k w w₁ s) e S
-
--- as many active fields as were counted
-pub active-long : (A : List Field) (m : ℕ) {C : List Field} → m ≡ length C → take (length C) A ≡ C → length (take m A) ≡ m
-active-long A m e f = ap (λ n. length (take n A)) e ∙ ap length f ∙ sym e

@@ -14,7 +14,8 @@ use Rattle.geometry.specs.declared.bounds.Options.{Options}
 use Rattle.geometry.specs.declared.field.Field.{Field}
 use Rattle.geometry.specs.Literals.{fifteenHundredths}
 use Rattle.mesh.specs.Group.{groups}
-use Rattle.repair.specs.Mesh.{Mesh, made, measure, lowestOf}
+use Rattle.mesh.specs.Measure.{measure, lowestOf}
+use Rattle.repair.specs.Mesh.{Mesh, made}
 use Rattle.repair.specs.Smooth.{State, placed, moveTo, aboutGroup, bestFor, taken, smoothGroup, smoothGroups, smooth}
 use Rattle.repair.proofs.Laws.Results.{mesh-of, count-of}
 

@@ -22,14 +22,15 @@ use Rattle.mesh.specs.declared.element.Tet.{Tet}
 use Rattle.mesh.specs.Words.{pointAt}
 use Rattle.mesh.specs.Tests.{every}
 use Rattle.mesh.specs.Intake.{sizedPoint, inBox}
+use Rattle.mesh.specs.Measure.{measure, determinantOf, scoreOf, lowestOf}
 use Rattle.mesh.proofs.Laws.Complex.Sets.{split, and-fst}
 use Rattle.mesh.proofs.Laws.Link.Members.{kept-elim, kept-intro, every-elim}
 use Rattle.repair.specs.declared.project.Projected.{Projected}
 use Rattle.repair.specs.declared.project.Projected.the-variants.{Found, Nothing}
-use Rattle.repair.specs.Mesh.{Mesh, measure, any, has, determinantOf, scoreOf, lowestOf}
+use Rattle.repair.specs.Mesh.{Mesh, any, has}
 use Rattle.repair.specs.Project.{project}
 use Rattle.repair.specs.Wholeness.{Exact}
-use Rattle.repair.specs.Smooth.{State, Best, keptOn, placed, moveTo, better, allowed, tried, bestOf, aboutGroup, bestFor, taken, smoothGroup, smoothGroups}
+use Rattle.repair.specs.Smooth.{State, Best, mapped, keptOn, placed, moveTo, better, allowed, tried, bestOf, aboutGroup, bestFor, taken, smoothGroup, smoothGroups}
 use Rattle.repair.proofs.Laws.Smooth.Scores.{AllNear, score-exact, above-exact, lowest-exact, lowest-under, lowest-over}
 use Rattle.repair.proofs.Laws.Smooth.Sizes.{sized-near, box-near}
 use Rattle.repair.proofs.Laws.Smooth.Placed.{placed-all, placed-other, length-placed, away, same-determinant, same-score}
@@ -46,6 +47,11 @@ cond-within : (t : Bool) (x y : Float) → within 20 x → within 20 y → withi
 cond-within true x y h k = h
 cond-within false x y h k = k
 
+-- the map keeps a point within 2 ^ 20
+mapped-near : (p : Point) → Near 20 p → Near 20 (mapped p)
+unfolding mapped
+mapped-near p n = n
+
 module _ (o : Options) (high : sizedPoint (o .bounds .hi) ≡ true) where
   kept-near : (q p : Point) → Near 20 p → Near 20 (keptOn o q p)
   kept-near q p n =
@@ -59,26 +65,26 @@ module _ (o : Options) (high : sizedPoint (o .bounds .hi) ≡ true) where
   -- moved points stay within 2 ^ 20
   pub moved-near : (s : State) (g : List ℕ) (p : Point) → AllNear (s .points) → Near 20 p → AllNear (moveTo o s g p .points)
   unfolding moveTo
-  moved-near s g p n k = placed-all (λ v. keptOn o (pointAt (s .parameters) v) p) (Near 20) g (s .points) n (λ v. kept-near (pointAt (s .parameters) v) p k)
+  moved-near s g p n k = placed-all (λ v. mapped (keptOn o (pointAt (s .parameters) v) p)) (Near 20) g (s .points) n (λ v. mapped-near (keptOn o (pointAt (s .parameters) v) p) (kept-near (pointAt (s .parameters) v) p k))
 
 -- there are as many as before
 pub moved-length : (o : Options) (s : State) (g : List ℕ) (p : Point) → length (moveTo o s g p .points) ≡ length (s .points)
 unfolding moveTo
-moved-length o s g p = length-placed (λ v. keptOn o (pointAt (s .parameters) v) p) g (s .points)
+moved-length o s g p = length-placed (λ v. mapped (keptOn o (pointAt (s .parameters) v) p)) g (s .points)
 
 -- an element away from the group keeps determinant and score
 module _ (o : Options) (s : State) (g : List ℕ) (p : Point) (t : Tet) (h : any (λ v. has v t) g ≡ false) where
   pub away-determinant : determinantOf (moveTo o s g p .points) t ≡ determinantOf (s .points) t
   unfolding moveTo
   away-determinant =
-      same-determinant (s .points) (placed (λ v. keptOn o (pointAt (s .parameters) v) p) g (s .points)) t
-      (λ w m. placed-other (λ v. keptOn o (pointAt (s .parameters) v) p) g (s .points) w (away g t w h m))
+      same-determinant (s .points) (placed (λ v. mapped (keptOn o (pointAt (s .parameters) v) p)) g (s .points)) t
+      (λ w m. placed-other (λ v. mapped (keptOn o (pointAt (s .parameters) v) p)) g (s .points) w (away g t w h m))
 
   pub away-score : scoreOf (moveTo o s g p .points) t ≡ scoreOf (s .points) t
   unfolding moveTo
   away-score =
-      same-score (s .points) (placed (λ v. keptOn o (pointAt (s .parameters) v) p) g (s .points)) t
-      (λ w m. placed-other (λ v. keptOn o (pointAt (s .parameters) v) p) g (s .points) w (away g t w h m))
+      same-score (s .points) (placed (λ v. mapped (keptOn o (pointAt (s .parameters) v) p)) g (s .points)) t
+      (λ w m. placed-other (λ v. mapped (keptOn o (pointAt (s .parameters) v) p)) g (s .points) w (away g t w h m))
 
 -- ---- the best candidate
 
@@ -199,7 +205,7 @@ module _ (o : Options) (fields : List Field) (regions : Option (List ℕ)) (m : 
   unfolding moveTo
   moved-long s g p l = record {
     parameters = length-placed (λ v. keptOn o (pointAt (s .parameters) v) p) g (s .parameters) ∙ l .parameters;
-    points = length-placed (λ v. keptOn o (pointAt (s .parameters) v) p) g (s .points) ∙ l .points;
+    points = length-placed (λ v. mapped (keptOn o (pointAt (s .parameters) v) p)) g (s .points) ∙ l .points;
   }
 
   taken-long : (s : State) (g : List ℕ) (r : Option Point) → Long s₀ s → Long s₀ (taken o fields regions m s g r)

@@ -17,7 +17,8 @@ use Rattle.mesh.specs.Complex.{alternating}
 use Rattle.mesh.specs.Element.{verticesOf}
 use Rattle.mesh.specs.Group.{groups}
 use Rattle.mesh.specs.Intake.{sizedPoint}
-use Rattle.repair.specs.Mesh.{Mesh, made, measure, determinantOf, scoreOf, lowestOf}
+use Rattle.mesh.specs.Measure.{measure, determinantOf, scoreOf, lowestOf}
+use Rattle.repair.specs.Mesh.{Mesh, made}
 use Rattle.repair.specs.Wholeness.{Exact}
 use Rattle.repair.specs.Smooth.{State, smoothGroups, smooth}
 use Rattle.repair.proofs.Laws.Smooth.Scores.{AllNear, score-exact, lowest-exact, lowest-one, lowest-under, lowest-over, no-loss}

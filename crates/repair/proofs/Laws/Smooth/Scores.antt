@@ -24,7 +24,7 @@ use Rattle.geometry.proofs.Laws.Score.Finite.{score-not-negative}
 use Rattle.repair.proofs.Laws.Improve.Scores.{exact-fits, exact-lt, one-exact}
 use Rattle.mesh.specs.declared.element.Tet.{Tet}
 use Rattle.mesh.specs.Words.{pointAt}
-use Rattle.repair.specs.Mesh.{scoreOf}
+use Rattle.mesh.specs.Measure.{scoreOf}
 use Rattle.repair.specs.Wholeness.{Exact}
 
 -- ---- points and scores

@@ -2,7 +2,7 @@
 use lib.Ieee.{ofBits}
 use lib.ListN.{take}
 use Rattle.mesh.proofs.Laws.Intake.Chains.{fails-by, holds-by}
-use Rattle.repair.specs.Regions.{regionsOf}
+use Rattle.repair.specs.Step.{regionsOf}
 use Rattle.repair.proofs.Laws.Candidate.Tests.{too-far, none-active, some-active}
 use borrow.Author.Needs.{needs}
 use Rattle.repair.proofs.candidate.allowed.Statement.{statement}

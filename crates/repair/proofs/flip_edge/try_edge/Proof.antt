@@ -1,7 +1,7 @@
 -- `repair::flip_edge::try_edge` meets its contract: three returns that change nothing, and the replacement. Assumes nothing.
 use mathlib.Core.Path.{_∙_}
 use Rattle.mesh.specs.Words.{pointsOf}
-use Rattle.repair.specs.Mesh.{measure}
+use Rattle.mesh.specs.Measure.{measure}
 use Rattle.repair.proofs.Laws.Flip.Replaced.{counts-same}
 use Rattle.repair.proofs.Laws.Flip.TryEdge.{edge-few, edge-others, edge-taken, edge-flipped}
 use borrow.Author.Needs.{needs}

@@ -1,6 +1,6 @@
 -- `repair::flip_face::try_face` meets its contract. Assumes nothing.
 use Rattle.mesh.specs.Words.{pointsOf}
-use Rattle.repair.specs.Mesh.{measure}
+use Rattle.mesh.specs.Measure.{measure}
 use Rattle.repair.proofs.Laws.Flip.Replaced.{counts-same}
 use Rattle.repair.proofs.Laws.Flip.FaceTried.{face-first, face-second, face-edge, face-made}
 use borrow.Author.Needs.{needs}

@@ -2,7 +2,7 @@
 use mathlib.Core.Path.{sym, _∙_}
 use borrow.Author.Tests.{not-true, not-false}
 use Rattle.mesh.specs.Words.{pointsOf}
-use Rattle.repair.specs.Mesh.{measure}
+use Rattle.mesh.specs.Measure.{measure}
 use Rattle.repair.proofs.Laws.Flip.Replaced.{replace-not, replace-fits, replace-made, counts-same, counts-more}
 use borrow.Author.Needs.{needs}
 use Rattle.repair.proofs.flip_replace.replace.Statement.{statement}

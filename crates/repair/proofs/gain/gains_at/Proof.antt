@@ -3,7 +3,7 @@ use lib.ListN.{drop}
 use borrow.Author.Tests.{not-true, not-false}
 use Rattle.mesh.specs.Words.{pointsOf}
 use Rattle.mesh.specs.Element.{tets}
-use Rattle.repair.specs.Mesh.{measure}
+use Rattle.mesh.specs.Measure.{measure}
 use Rattle.repair.specs.Improve.{collapsed}
 use Rattle.repair.specs.Layout.{pairsIn}
 use Rattle.repair.proofs.Laws.Gain.Judging.{gains-no, gains-fewer, gains-higher}

@@ -1,7 +1,7 @@
 -- `repair::gain::tally_images` meets its contract. Assumes nothing.
 use borrow.Author.Tests.{not-true, not-false}
 use Rattle.mesh.specs.Words.{pointsOf}
-use Rattle.repair.specs.Mesh.{measure}
+use Rattle.mesh.specs.Measure.{measure}
 use Rattle.repair.specs.Layout.{pairsIn}
 use Rattle.repair.proofs.Laws.Gain.Judging.{Judging, judge-start, judge-fail, judge-turn, judge-end}
 use borrow.Author.Needs.{needs}

@@ -1,6 +1,7 @@
 -- `repair::group_move::move_vertex` meets its contract. Assumes nothing.
-use mathlib.Core.Path.{_≡_}
-use Rattle.repair.specs.Site.{newPoint}
+use mathlib.Core.Path.{_≡_, ap, _∙_}
+use Rattle.repair.specs.Smooth.{mapped}
+use Rattle.repair.specs.Site.{newParameters}
 use Rattle.repair.proofs.Laws.Site.Moved.{put-as}
 use borrow.Author.Needs.{needs}
 use Rattle.repair.proofs.group_move.move_vertex.Statement.{statement}
@@ -11,6 +12,9 @@ vertex-point-requires c κs = search needs
 
 kept-on-requires : tie.Need-kept-on-requires
 kept-on-requires c κs = search needs
+
+mapped-requires : tie.Need-mapped-requires
+mapped-requires c κs = search needs
 
 put-point-requires : tie.Need-put-point-requires
 put-point-requires c κs = search needs
@@ -25,8 +29,11 @@ same-length-2 : tie.Need-same-length-2
 same-length-2 c = search needs
 
 returns : tie.Need-returns
-returns c = let e : c .before .before .before .before .before .before .before .before .kept-on .result ≡ newPoint (c .before .before .before .before .before .before .before .before .before .before .before .before .before .args .o) (c .before .before .before .before .before .before .before .before .before .before .before .before .before .args .nv) (c .before .before .before .before .before .before .before .before .before .before .before .before .before .args .parameters .now) (c .before .before .before .before .before .before .before .before .before .before .before .before .before .args .p) (c .before .before .before .before .before .before .before .before .before .before .before .before .before .args .v) = cc in
-    (put-as (c .before .before .before .before .before .before .before .before .before .before .before .before .before .args .nv) (c .before .before .before .before .before .before .before .before .before .before .before .before .before .args .v) (c .before .before .before .before .before .before .before .before .before .before .before .before .before .args .parameters .now) _ e (c .before .before .before .before .before .before .put-point .ensures), put-as (c .before .before .before .before .before .before .before .before .before .before .before .before .before .args .nv) (c .before .before .before .before .before .before .before .before .before .before .before .before .before .args .v) (c .before .before .before .before .before .before .before .before .before .before .before .before .before .args .points .now) _ e (c .before .before .put-point2 .ensures))
+returns c = let a = c .before .before .before .before .before .before .before .before .before .before .before .before .before .before .args in
+    let e : c .before .before .before .before .before .before .before .before .before .kept-on .result ≡ newParameters (a .o) (a .nv) (a .parameters .now) (a .p) (a .v) = cc in (
+      put-as (a .nv) (a .v) (a .parameters .now) _ e (c .before .before .before .before .before .before .put-point .ensures),
+      put-as (a .nv) (a .v) (a .points .now) _ (c .before .before .before .before .before .before .before .before .mapped .ensures ∙ ap mapped e) (c .before .before .put-point2 .ensures),
+    )
 
 pub move-vertex-spec : {M : Type 1} → statement M
 move-vertex-spec =
@@ -34,6 +41,7 @@ move-vertex-spec =
     (tie.spec
     vertex-point-requires
     kept-on-requires
+    mapped-requires
     put-point-requires
     put-point-requires-2
     same-length

@@ -1,7 +1,7 @@
 -- `repair::orient::is_accepted` meets its contract, test by test. Assumes nothing.
 use borrow.Author.Tests.{not-true, not-false}
 use Rattle.mesh.specs.Words.{pointsOf}
-use Rattle.repair.specs.Mesh.{measure}
+use Rattle.mesh.specs.Measure.{measure}
 use Rattle.repair.specs.Trio.{elementsOf}
 use Rattle.repair.proofs.Laws.Flip.Trio.{accepted-flat, accepted-low, accepted-bad, accepted-volume}
 use borrow.Author.Needs.{needs}

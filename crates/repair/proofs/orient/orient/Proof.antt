@@ -1,7 +1,7 @@
 -- `repair::orient::orient` meets its contract. Assumes nothing.
 use mathlib.Core.Path.{refl}
 use Rattle.mesh.specs.Words.{pointsOf}
-use Rattle.repair.specs.Mesh.{measure}
+use Rattle.mesh.specs.Measure.{measure}
 use Rattle.repair.specs.Flip.{oriented}
 use Rattle.repair.proofs.Laws.Flip.Trio.{elements-map}
 use borrow.Author.Needs.{needs}

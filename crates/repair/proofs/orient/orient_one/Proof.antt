@@ -1,20 +1,19 @@
 -- `repair::orient::orient_one` meets its contract. Assumes nothing.
 use Rattle.mesh.specs.Words.{pointsOf}
+use Rattle.mesh.specs.Measure.{measure}
 use Rattle.repair.proofs.Laws.Flip.Trio.{oriented-below, oriented-other}
 use borrow.Author.Needs.{needs}
 use Rattle.repair.proofs.orient.orient_one.Statement.{statement}
 use Rattle.repair.proofs.orient.orient_one.Tie as tie
 
-determinant-of-requires : tie.Need-determinant-of-requires
-determinant-of-requires c κs = search needs
+is-below-requires : tie.Need-is-below-requires
+is-below-requires c κs = search needs
 
 returns : tie.Need-returns
-unfolding lib.Ieee.ofBits
-returns c = oriented-below (pointsOf (c .before .before .before .args .nv) (c .before .before .before .args .points .now)) (c .before .before .before .args .t) _ (c .before .determinant-of .ensures) (c .if1 .taken)
+returns c = oriented-below (measure (pointsOf (c .before .before .before .args .nv) (c .before .before .before .args .points .now))) (c .before .before .before .args .t) _ (c .before .is-below .ensures) (c .if1 .taken)
 
 returns-2 : tie.Need-returns-2
-unfolding lib.Ieee.ofBits
-returns-2 c = oriented-other (pointsOf (c .before .before .before .args .nv) (c .before .before .before .args .points .now)) (c .before .before .before .args .t) _ (c .before .determinant-of .ensures) (c .if1 .left)
+returns-2 c = oriented-other (measure (pointsOf (c .before .before .before .args .nv) (c .before .before .before .args .points .now))) (c .before .before .before .args .t) _ (c .before .is-below .ensures) (c .if1 .left)
 
 pub orient-one-spec : {M : Type 1} → statement M
-orient-one-spec = tie.close (tie.spec determinant-of-requires returns returns-2)
+orient-one-spec = tie.close (tie.spec is-below-requires returns returns-2)

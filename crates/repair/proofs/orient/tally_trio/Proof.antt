@@ -1,7 +1,7 @@
 -- `repair::orient::tally_trio` meets its contract. Assumes nothing.
 use native.Mathlib.Omega.{arith}
 use Rattle.mesh.specs.Words.{pointsOf}
-use Rattle.repair.specs.Mesh.{measure}
+use Rattle.mesh.specs.Measure.{measure}
 use Rattle.repair.proofs.Laws.Flip.Trio.{tally-two, tally-three, few-none, few-more}
 use borrow.Author.Needs.{needs}
 use Rattle.repair.proofs.orient.tally_trio.Statement.{statement}

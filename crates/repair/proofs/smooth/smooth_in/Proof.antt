@@ -3,7 +3,7 @@ use mathlib.Core.Path.{ap, _∙_}
 use native.Mathlib.Omega.{arith}
 use lib.ListN.{take}
 use Rattle.mesh.specs.Words.{zeroWords}
-use Rattle.repair.specs.Regions.{regionsOf}
+use Rattle.repair.specs.Step.{regionsOf}
 use Rattle.repair.proofs.Laws.Site.Pass.{turned-as}
 use borrow.Author.Needs.{needs}
 use Rattle.repair.proofs.smooth.smooth_in.Statement.{statement}
@@ -34,9 +34,9 @@ returns : tie.Need-returns
 returns c =
     let a = (c .before .before .before .before .before .before .before .before .before .before .before .before .before .before .before .before .before .before .before .before .before .before .before .before .before .args) in
     let q = c .before .before .before .before .before .before .before .before .before .before .before .before .before .before .before .before .prepare .ensures .0 in (
-      turned-as (a .o) (take (a .count) (a .fields)) (regionsOf (a .listed) (a .regions .now)) (c .before .before .before .before .before .before .before .before .before .before .before .before .before .before .before .before .prepare .result) (a .sizes .vertices) (a .sizes .elements) (a .masks .now) (a .elements .now)
+      turned-as (a .s .options) (take (a .s .count) (a .fields)) (regionsOf (a .listed) (a .regions .now)) (c .before .before .before .before .before .before .before .before .before .before .before .before .before .before .before .before .prepare .result) (a .s .sizes .vertices) (a .s .sizes .elements) (a .masks .now) (a .elements .now)
           (a .parameters .now) (a .points .now) _ _ (c .before .before .before .before .before .before .before .before .before .before .smooth-groups .result) (q .0) (q .1) (c .before .before .before .before .before .before .before .before .before .before .smooth-groups .ensures),
-      c .before .before .clear .ensures ∙ ap zeroWords (c .before .before .before .before .before .before .before .before .before .before .smooth-groups .kept .1 .1 .1 .1 .1 .1 .1 .1 .1 .0 ∙ c .before .before .before .before .before .before .before .before .before .before .before .before .before .before .before .before .prepare .kept .1 .1 .1 .1 .0),
+      c .before .before .clear .ensures ∙ ap zeroWords (c .before .before .before .before .before .before .before .before .before .before .smooth-groups .kept .1 .1 .1 .1 .1 .1 .1 .1 .0 ∙ c .before .before .before .before .before .before .before .before .before .before .before .before .before .before .before .before .prepare .kept .1 .1 .1 .1 .0),
     )
 
 pub smooth-in-spec : {M : Type 1} → statement M

@@ -1,6 +1,6 @@
 -- `repair::tally::tally_elements` meets its contract. Assumes nothing.
 use Rattle.mesh.specs.Words.{pointsOf}
-use Rattle.repair.specs.Mesh.{measure}
+use Rattle.mesh.specs.Measure.{measure}
 use Rattle.repair.proofs.Laws.Gain.Tallies.{Tallying, tally-start, tally-turn, tally-end}
 use borrow.Author.Needs.{needs}
 use Rattle.repair.proofs.tally.tally_elements.Statement.{statement}

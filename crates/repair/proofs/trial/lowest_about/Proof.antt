@@ -5,7 +5,7 @@ use native.Mathlib.Omega.{arith}
 use Rattle.geometry.specs.Float.{smaller}
 use Rattle.mesh.specs.Words.{wordAt, pointsOf}
 use Rattle.mesh.specs.Intake.{tetAt}
-use Rattle.repair.specs.Mesh.{measure, scoreOf, lowestOf}
+use Rattle.mesh.specs.Measure.{measure, scoreOf, lowestOf}
 use Rattle.repair.specs.Site.{about}
 use Rattle.repair.proofs.Laws.Site.Scan.{lowLeft, low-start, low-turn, low-end}
 use borrow.Author.Needs.{needs}

@@ -15,14 +15,10 @@ trial-point-requires-3 c κs = search needs
 trial-point-requires-4 : tie.Need-trial-point-requires-4
 trial-point-requires-4 c κs = search needs
 
-determinant-requires : tie.Need-determinant-requires
-determinant-requires c κs = search needs
-
-score-requires : tie.Need-score-requires
-score-requires c κs = search needs
+measured-at-requires : tie.Need-measured-at-requires
+measured-at-requires c κs = search needs
 
 returns : tie.Need-returns
-unfolding lib.Ieee.ofBits
 returns c = cc
 
 pub measure-element-spec : {M : Type 1} → statement M
@@ -33,6 +29,5 @@ measure-element-spec =
     trial-point-requires-2
     trial-point-requires-3
     trial-point-requires-4
-    determinant-requires
-    score-requires
+    measured-at-requires
     returns)

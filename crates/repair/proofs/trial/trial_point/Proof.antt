@@ -1,8 +1,7 @@
 -- `repair::trial::trial_point` meets its contract. Assumes nothing.
 use mathlib.Core.Path.{_≡_, _∙_}
-use Rattle.mesh.specs.Words.{pointAt, pointsOf}
 use Rattle.mesh.proofs.Laws.Intake.Chains.{fails-by, holds-by}
-use Rattle.repair.specs.Smooth.{keptOn}
+use Rattle.repair.specs.Site.{newPoint}
 use Rattle.repair.proofs.Laws.Site.Moved.{trial-past, trial-other, trial-at}
 use borrow.Author.Needs.{needs}
 use Rattle.repair.proofs.trial.trial_point.Statement.{statement}
@@ -26,9 +25,13 @@ vertex-point-requires-2 c κs = search needs
 kept-on-requires : tie.Need-kept-on-requires
 kept-on-requires c κs = search needs
 
+mapped-requires : tie.Need-mapped-requires
+mapped-requires c κs = search needs
+
 returns-3 : tie.Need-returns-3
-returns-3 c = let e : c .kept-on .result ≡ keptOn (c .before .before .before .before .before .before .before .before .before .before .args .o) (pointAt (pointsOf (c .before .before .before .before .before .before .before .before .before .before .args .s .vertices) (c .before .before .before .before .before .before .before .before .before .before .args .parameters .now)) (c .before .before .before .before .before .before .before .before .before .before .args .v)) (c .before .before .before .before .before .before .before .before .before .before .args .p) = cc in
-    e ∙ trial-at (c .before .before .before .before .before .before .before .before .before .before .args .o) (c .before .before .before .before .before .before .before .before .before .before .args .parameters .now) (c .before .before .before .before .before .before .before .before .before .before .args .points .now) (c .before .before .before .before .before .before .before .before .before .before .args .work .now) (c .before .before .before .before .before .before .before .before .before .before .args .s) (c .before .before .before .before .before .before .before .before .before .before .args .p) (c .before .before .before .before .before .before .before .before .before .before .args .v) (c .before .before .before .before .if1 .left) (holds-by (c .before .before .before .is-member .ensures) (c .before .before .if2 .left))
+returns-3 c = let a = c .before .before .before .before .before .before .before .before .before .before .before .args in
+    let e : c .mapped .result ≡ newPoint (a .o) (a .s .vertices) (a .parameters .now) (a .p) (a .v) = cc in
+    e ∙ trial-at (a .o) (a .parameters .now) (a .points .now) (a .work .now) (a .s) (a .p) (a .v) (c .before .before .before .before .before .if1 .left) (holds-by (c .before .before .before .before .is-member .ensures) (c .before .before .before .if2 .left))
 
 pub trial-point-spec : {M : Type 1} → statement M
 trial-point-spec =
@@ -40,4 +43,5 @@ trial-point-spec =
     returns-2
     vertex-point-requires-2
     kept-on-requires
+    mapped-requires
     returns-3)

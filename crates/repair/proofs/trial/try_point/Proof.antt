@@ -9,10 +9,11 @@ use Rattle.geometry.specs.Float.{smaller}
 use Rattle.mesh.specs.Words.{wordAt}
 use Rattle.mesh.specs.Tests.{every}
 use Rattle.mesh.specs.Intake.{tetAt}
+use Rattle.mesh.specs.Measure.{measure, scoreOf, lowestOf}
 use Rattle.mesh.proofs.Laws.Complex.Sets.{clash}
-use Rattle.repair.specs.declared.trial.Measured.{Measured}
-use Rattle.repair.specs.Mesh.{measure, scoreOf, lowestOf}
+use Rattle.mesh.specs.declared.measure.Measured.{Measured}
 use Rattle.repair.specs.Site.{about, trialPoints}
+use Rattle.repair.proofs.Laws.Measured.{measured-score}
 use Rattle.repair.proofs.Laws.Site.Scan.{lowLeft, betterLeft, low-start, low-turn, low-end, better-turn, better-fail, better-low, better-end}
 use borrow.Author.Needs.{needs}
 use Rattle.repair.proofs.trial.try_point.Statement.{statement}
@@ -70,7 +71,7 @@ returns-2 c =
     let els = a .elements .now in
     let w = a .work .now in
     let t : c .before .before .before .before .before .tet-at .result ≡ tetAt els (wordAt w (c .before .before .before .before .before .before .before .before .loop .i)) = c .before .before .before .before .before .tet-at .ensures ∙ ap (tetAt els) (c .before .before .before .before .before .before .word .ensures) in
-    let e : c .before .smaller .result ≡ smaller (c .before .before .before .before .before .before .before .before .loop .low) (scoreOf ps (tetAt els (wordAt w (c .before .before .before .before .before .before .before .before .loop .i)))) = c .before .smaller .ensures ∙ ap (smaller (c .before .before .before .before .before .before .before .before .loop .low)) (ap (λ (r : Measured). r .score) (c .before .before .before .before .measure-element .ensures) ∙ ap (scoreOf ps) t) in
+    let e : c .before .smaller .result ≡ smaller (c .before .before .before .before .before .before .before .before .loop .low) (scoreOf ps (tetAt els (wordAt w (c .before .before .before .before .before .before .before .before .loop .i)))) = c .before .smaller .ensures ∙ ap (smaller (c .before .before .before .before .before .before .before .before .loop .low)) (measured-score ps (c .before .before .before .before .before .tet-at .result) (c .before .before .before .before .measure-element .ensures) (not-false _ (c .before .before .if1 .left)) ∙ ap (scoreOf ps) t) in
     let f = ap (lt (a .bar)) (sym e) ∙ not-true _ (c .if2 .taken) in
     (sym (better-low els w ps (a .bar) (c .before .before .before .before .before .before .before .before .loop .i) (c .before .before .before .before .before .before .before .before .loop .left) (c .before .before .before .before .before .before .before .before .loop .low) (c .before .before .before .before .before .before .before .loop-test .taken) f) ∙ c .before .before .before .before .before .before .before .before .loop .inv .2, λ e. absurd (clash e refl))
 
@@ -90,7 +91,7 @@ loop-again c =
     let els = a .elements .now in
     let w = a .work .now in
     let t : c .before .before .before .before .before .tet-at .result ≡ tetAt els (wordAt w (c .before .before .before .before .before .before .before .before .loop .i)) = c .before .before .before .before .before .tet-at .ensures ∙ ap (tetAt els) (c .before .before .before .before .before .before .word .ensures) in
-    let e : c .before .smaller .result ≡ smaller (c .before .before .before .before .before .before .before .before .loop .low) (scoreOf ps (tetAt els (wordAt w (c .before .before .before .before .before .before .before .before .loop .i)))) = c .before .smaller .ensures ∙ ap (smaller (c .before .before .before .before .before .before .before .before .loop .low)) (ap (λ (r : Measured). r .score) (c .before .before .before .before .measure-element .ensures) ∙ ap (scoreOf ps) t) in
+    let e : c .before .smaller .result ≡ smaller (c .before .before .before .before .before .before .before .before .loop .low) (scoreOf ps (tetAt els (wordAt w (c .before .before .before .before .before .before .before .before .loop .i)))) = c .before .smaller .ensures ∙ ap (smaller (c .before .before .before .before .before .before .before .before .loop .low)) (measured-score ps (c .before .before .before .before .before .tet-at .result) (c .before .before .before .before .measure-element .ensures) (not-false _ (c .before .before .if1 .left)) ∙ ap (scoreOf ps) t) in
     let f : measure ps .above (tetAt els (wordAt w (c .before .before .before .before .before .before .before .before .loop .i))) ≡ true = ap (λ t. measure ps .above t) (sym t) ∙ sym (ap (λ (r : Measured). r .above) (c .before .before .before .before .measure-element .ensures)) ∙ not-false _ (c .before .before .if1 .left) in (
       omega (arith, c .before .before .before .before .before .before .before .before .loop .inv .0),
       ap (lowLeft els w ps (c .before .before .before .before .before .before .before .before .loop .i + 1) (c .before .before .before .before .before .before .before .before .loop .left - 1)) e ∙ low-turn els w ps (c .before .before .before .before .before .before .before .before .loop .i) (c .before .before .before .before .before .before .before .before .loop .left) (c .before .before .before .before .before .before .before .before .loop .low) (c .before .before .before .before .before .before .before .loop-test .taken) ∙ c .before .before .before .before .before .before .before .before .loop .inv .1,

@@ -14,6 +14,7 @@ use Rattle.geometry.specs.declared.field.Field.the-variants.{Level}
 use Rattle.geometry.specs.Float.{zero64}
 use Rattle.mesh.proofs.Laws.Bools.{split}
 use Rattle.mesh.proofs.Laws.Parts.{side}
+use Rattle.report.specs.Format.{boundsPlace, cellsPlace, periodicPlace, passesPlace, firstField, fieldPlaces, fieldSize}
 use Rattle.report.specs.Bytes.{byteAt, wordIn, floatIn, pointFrom, listed}
 use Rattle.report.specs.Block.{Plot, verticesIn, elementsIn, vertexBlocks, headerOptions, fieldsIn, fieldFrom, fieldAt, headerFields, kindsNumber, vertexPlace, elementPlace, parameterRow, pointRow, maskRow, elementRow, fileNumber, readingNumber, plotIn, reading}
 use Rattle.report.specs.Block.{read}
@@ -63,10 +64,10 @@ module _ (s : List ℕ) where
 
   field-fits : (j : ℕ) → FieldFits (fieldAt s j)
   unfolding fieldAt
-  field-fits j = elim (split (ltb j (fieldsIn s))) [ inl t ↦ rw t (from-fits (wordIn s (23 + 9 * j)) (24 + 9 * j)) | inr f ↦ rw f zero-fits ]
+  field-fits j = elim (split (ltb j (fieldsIn s))) [ inl t ↦ rw t (from-fits (wordIn s (firstField + fieldSize * j)) (firstField + 1 + fieldSize * j)) | inr f ↦ rw f zero-fits ]
 
   -- the field j of the eight
-  field-of : (j : ℕ) → j < 8 → getD (headerFields s) j (Level zero64) ≡ fieldAt s j
+  field-of : (j : ℕ) → j < fieldPlaces → getD (headerFields s) j (Level zero64) ≡ fieldAt s j
   unfolding listed
   field-of j l =
       let e : j ≡ j * 1 + 0 = omega arith in
@@ -85,9 +86,9 @@ module _ (s : List ℕ) where
   three-fit a b c (suc (suc (suc i))) = zero-fits
 
   -- at most 8 fields
-  count-few : kindsNumber s ≡ 0 → fieldsIn s ≤ 8
+  count-few : kindsNumber s ≡ 0 → fieldsIn s ≤ fieldPlaces
   unfolding kindsNumber
-  count-few h = elim (split (leb (fieldsIn s) 8)) [ inl t ↦ leb-true (fieldsIn s) 8 t | inr f ↦ absurd (no (rw f at h)) ]
+  count-few h = elim (split (leb (fieldsIn s) fieldPlaces)) [ inl t ↦ leb-true (fieldsIn s) fieldPlaces t | inr f ↦ absurd (no (rw f at h)) ]
     where
       no : _≡_ {A = ℕ} 11 0 → ⊥
       no z = omega arith
@@ -102,7 +103,7 @@ module _ (s : List ℕ) where
         let d = byte (4 * i + 3) in
         omega arith
 
-    fields-few : fieldsIn s ≤ 8
+    fields-few : fieldsIn s ≤ fieldPlaces
     unfolding readingNumber
     fields-few = count-few (first-zero (fileNumber s) (kindsNumber s) number .1)
 
@@ -144,11 +145,11 @@ module _ (s : List ℕ) where
           points-in = let l = exact .points-all in omega arith;
           masks-in = let l = exact .masks-all in omega arith;
           corners-in = let l = exact .corners-all in omega arith;
-          lo-fits = record { x-fits = float-fits 5; y-fits = float-fits 9; z-fits = float-fits 13 };
-          hi-fits = record { x-fits = float-fits 7; y-fits = float-fits 11; z-fits = float-fits 15 };
-          cells-small = (word-small 17, word-small 18, word-small 19);
-          periodic-small = word-small 20;
-          passes-small = word-small 21;
+          lo-fits = record { x-fits = float-fits boundsPlace; y-fits = float-fits (boundsPlace + 4); z-fits = float-fits (boundsPlace + 8) };
+          hi-fits = record { x-fits = float-fits (boundsPlace + 2); y-fits = float-fits (boundsPlace + 6); z-fits = float-fits (boundsPlace + 10) };
+          cells-small = (word-small cellsPlace, word-small (cellsPlace + 1), word-small (cellsPlace + 2));
+          periodic-small = word-small periodicPlace;
+          passes-small = word-small passesPlace;
           fields-fit = λ j l. subst FieldFits (sym (field-of j (omega (arith, fields-few)))) (field-fits j);
           parameters-fit = listed-all Fit zero64 zero-fits (parameterRow s) (λ v. three-fit (vertexPlace v) (vertexPlace v + 2) (vertexPlace v + 4)) (verticesIn s);
           points-fit = listed-all Fit zero64 zero-fits (pointRow s) (λ v. three-fit (vertexPlace v + 6) (vertexPlace v + 8) (vertexPlace v + 10)) (verticesIn s);

@@ -14,6 +14,7 @@ use Rattle.geometry.specs.declared.field.Field.the-variants.{Level}
 use Rattle.geometry.specs.Float.{zero64}
 use Rattle.mesh.specs.Words.{wordAt, floatAt}
 use Rattle.mesh.proofs.Laws.Bools.{split}
+use Rattle.report.specs.Format.{wordsABlock, bytesABlock, firstRecord, vertexSize, verticesABlock, elementSize, elementsABlock, fieldPlaces}
 use Rattle.report.specs.Bytes.{listed}
 use Rattle.report.specs.Block.{Plot, vertexBlocks, vertexPlace, parameterRow, pointRow, maskRow, elementPlace, elementRow, plotIn, reading}
 use Rattle.report.specs.Block.{read}
@@ -33,14 +34,14 @@ module _ (p : Plot) (ok : Sound p) where
   vertex-holds : (v : ℕ) → v < p .vertices → Holds (fileOf p) (vertexPlace v) (vertexRecord (p .parameters) (p .points) (p .masks) v)
   unfolding vertexPlace vertexFront
   vertex-holds v l =
-      let k = 1 + v / 9 in
+      let k = 1 + v / verticesABlock in
       let row = vertexRecord (p .parameters) (p .points) (p .masks) in
-      let first = 9 * (k - 1) in
-      let n = min 9 (p .vertices - first) in
+      let first = verticesABlock * (k - 1) in
+      let n = min verticesABlock (p .vertices - first) in
       let some : k ≤ vertexBlocks (p .vertices) = omega arith in
-      let at : first + v % 9 ≡ v = omega arith in
+      let at : first + v % verticesABlock ≡ v = omega arith in
       let h = records-hold p k 2 k n (recordsFrom row first n) (omega arith) (vertex-front p k (omega arith) some) in
-      let g = holds-row (fileOf p) (128 * k + 3) (128 * k + 3 + 13 * (v % 9)) (λ (r : ℕ). row (first + r)) 13 n (v % 9) (λ r. vertex-length (p .parameters) (p .points) (p .masks) (first + r)) (omega arith) (omega arith) h in
+      let g = holds-row (fileOf p) (wordsABlock * k + firstRecord) (wordsABlock * k + firstRecord + vertexSize * (v % verticesABlock)) (λ (r : ℕ). row (first + r)) vertexSize n (v % verticesABlock) (λ r. vertex-length (p .parameters) (p .points) (p .masks) (first + r)) (omega arith) (omega arith) h in
       rw at at g
 
   -- the record of the element e
@@ -48,13 +49,13 @@ module _ (p : Plot) (ok : Sound p) where
   unfolding elementPlace elementFront
   element-holds e l =
       let b = vertexBlocks (p .vertices) in
-      let k = 1 + b + e / 31 in
+      let k = 1 + b + e / elementsABlock in
       let row = elementRecord (p .corners) in
-      let first = 31 * (k - 1 - b) in
-      let n = min 31 (p .elements - first) in
-      let at : first + e % 31 ≡ e = omega arith in
+      let first = elementsABlock * (k - 1 - b) in
+      let n = min elementsABlock (p .elements - first) in
+      let at : first + e % elementsABlock ≡ e = omega arith in
       let h = records-hold p k 3 k n (recordsFrom row first n) (omega arith) (element-front p k (omega arith)) in
-      let g = holds-row (fileOf p) (128 * k + 3) (128 * k + 3 + 4 * (e % 31)) (λ (r : ℕ). row (first + r)) 4 n (e % 31) (λ r. element-length (p .corners) (first + r)) (omega arith) (omega arith) h in
+      let g = holds-row (fileOf p) (wordsABlock * k + firstRecord) (wordsABlock * k + firstRecord + elementSize * (e % elementsABlock)) (λ (r : ℕ). row (first + r)) elementSize n (e % elementsABlock) (λ r. element-length (p .corners) (first + r)) (omega arith) (omega arith) h in
       rw at at g
 
   abbrev record-of : ℕ → List ℕ
@@ -144,7 +145,7 @@ module _ (p : Plot) (ok : Sound p) where
   pub written-back : (out : List ℕ) → hasRoom p (length out) ≡ true → reading (take (fileSize p (length out)) (fileInto p out)) ≡ read (kept p)
   unfolding fileSize fileInto
   written-back out h =
-      rw h (ap reading (take-at (fileOf p) (drop (512 * blocksOf (p .vertices) (p .elements)) out) (512 * blocksOf (p .vertices) (p .elements)) (file-length p)) ∙ read-back)
+      rw h (ap reading (take-at (fileOf p) (drop (bytesABlock * blocksOf (p .vertices) (p .elements)) out) (bytesABlock * blocksOf (p .vertices) (p .elements)) (file-length p)) ∙ read-back)
 
 -- ---- an exact plot is kept whole
 
@@ -155,7 +156,7 @@ unfolding listed
 eight l d e = rows-one l d 8 (omega arith) ∙ take-all 8 l (omega arith)
 
 module _ (p : Plot) (whole : Exact p) where
-  field-kept : (j : ℕ) → j < 8 → keptField (p .count) (p .fields) j ≡ getD (p .fields) j (Level zero64)
+  field-kept : (j : ℕ) → j < fieldPlaces → keptField (p .count) (p .fields) j ≡ getD (p .fields) j (Level zero64)
   unfolding keptField
   field-kept j l = elim (split (ltb j (p .count))) [ inl t ↦ rw t | inr f ↦ rw f (unused (whole .unused j (ltb-false j (p .count) f) l)) ]
     where

@@ -16,6 +16,7 @@ use Rattle.geometry.specs.Float.{zero64}
 use Rattle.geometry.specs.Word.{lowWord, highWord}
 use Rattle.mesh.specs.Words.{zeroWords}
 use Rattle.mesh.proofs.Laws.Bools.{split}
+use Rattle.report.specs.Format.{wordsABlock, headerKind, firstRecord, recordRoom, firstField, fieldPlaces, fieldSize, headerSize, ballKind}
 use Rattle.report.specs.Bytes.{wordIn, floatIn, pointFrom, listed}
 use Rattle.report.specs.Block.{Plot, verticesIn, elementsIn, headerOptions, fieldsIn, kindAt, fieldFrom, fieldAt, kindsNumber}
 use Rattle.report.specs.Write.{totalOf, checkOf, closed, blockFront, boundsWords, optionsWords, fieldWords, placeWords, headerRecord, headerFront, fileFront, fileBlock, blocksOf, fileOf, keptField, PointFits, FieldFits, Sound}
@@ -68,27 +69,27 @@ module _ (p : Plot) where
   many = blocksOf (p .vertices) (p .elements)
 
   -- the block k
-  pub block-holds : (k : ℕ) → k < blocksOf (p .vertices) (p .elements) → Holds (fileOf p) (128 * k) (fileBlock p k)
+  pub block-holds : (k : ℕ) → k < blocksOf (p .vertices) (p .elements) → Holds (fileOf p) (wordsABlock * k) (fileBlock p k)
   unfolding fileOf
   block-holds k l m q e g =
       let all = listed (fileBlock p) many in
-      let at : q ≡ k * 128 + m = omega arith in
+      let at : q ≡ k * wordsABlock + m = omega arith in
       let size = block-length p k in
-      word-back all q ∙ ap (λ (w : ℕ). w % 2 ^ 32) (ap (λ (i : ℕ). getD all i 0) at ∙ listed-at (fileBlock p) 128 0 (block-length p) many k m l (omega arith))
+      word-back all q ∙ ap (λ (w : ℕ). w % 2 ^ 32) (ap (λ (i : ℕ). getD all i 0) at ∙ listed-at (fileBlock p) wordsABlock 0 (block-length p) many k m l (omega arith))
 
   -- its words 0 to 126
-  pub front-holds : (k : ℕ) → k < blocksOf (p .vertices) (p .elements) → Holds (fileOf p) (128 * k) (fileFront p k)
+  pub front-holds : (k : ℕ) → k < blocksOf (p .vertices) (p .elements) → Holds (fileOf p) (wordsABlock * k) (fileFront p k)
   unfolding closed
-  front-holds k l = holds-left (fileOf p) (128 * k) (fileFront p k) (checkOf (totalOf (fileFront p k)) ∷ []) (block-holds k l)
+  front-holds k l = holds-left (fileOf p) (wordsABlock * k) (fileFront p k) (checkOf (totalOf (fileFront p k)) ∷ []) (block-holds k l)
 
   -- its records
   pub records-hold : (k kind number count : ℕ) (records : List ℕ) → k < blocksOf (p .vertices) (p .elements) → fileFront p k ≡ blockFront kind number count records
-      → Holds (fileOf p) (128 * k + 3) records
+      → Holds (fileOf p) (wordsABlock * k + firstRecord) records
   unfolding blockFront
   records-hold k kind number count records l e =
-      let rest = records ++ zeroWords (124 - length records) in
-      holds-left (fileOf p) (128 * k + 3) records (zeroWords (124 - length records))
-      (holds-right (fileOf p) (128 * k) (128 * k + 3) (kind ∷ number ∷ count ∷ []) rest refl (rw e at (front-holds k l)))
+      let rest = records ++ zeroWords (recordRoom - length records) in
+      holds-left (fileOf p) (wordsABlock * k + firstRecord) records (zeroWords (recordRoom - length records))
+      (holds-right (fileOf p) (wordsABlock * k) (wordsABlock * k + firstRecord) (kind ∷ number ∷ count ∷ []) rest refl (rw e at (front-holds k l)))
 
 -- ---- the header
 
@@ -96,16 +97,16 @@ module _ (p : Plot) (ok : Sound p) where
   abbrev record-words : List ℕ
   record-words = headerRecord (p .options) (p .count) (p .fields) (p .vertices) (p .elements)
 
-  header-holds : Holds (fileOf p) 3 record-words
+  header-holds : Holds (fileOf p) firstRecord record-words
   unfolding fileFront headerFront
-  header-holds = records-hold p 0 1 0 1 record-words (omega arith) refl
+  header-holds = records-hold p 0 headerKind 0 1 record-words (omega arith) refl
 
-  long : length record-words ≡ 92
+  long : length record-words ≡ headerSize
   long = header-length (p .options) (p .count) (p .fields) (p .vertices) (p .elements)
 
   -- the word at a place of the record
-  header-word : (a w : ℕ) → a < 92 → getD record-words a 0 ≡ w → w < 2 ^ 32 → wordIn (fileOf p) (3 + a) ≡ w
-  header-word a w l e g = let n = long in word-at (fileOf p) 3 record-words header-holds a (3 + a) w refl (omega arith) e g
+  header-word : (a w : ℕ) → a < headerSize → getD record-words a 0 ≡ w → w < 2 ^ 32 → wordIn (fileOf p) (firstRecord + a) ≡ w
+  header-word a w l e g = let n = long in word-at (fileOf p) firstRecord record-words header-holds a (firstRecord + a) w refl (omega arith) e g
 
   pub vertices-back : verticesIn (fileOf p) ≡ p .vertices
   unfolding headerRecord
@@ -119,8 +120,8 @@ module _ (p : Plot) (ok : Sound p) where
   unfolding headerRecord optionsWords boundsWords
   count-back = let h = ok .count-few in header-word 19 (p .count) (omega arith) refl (omega arith)
 
-  header-float : (a : ℕ) (x : Float) → T (fits binary64 x) → a < 91 → getD record-words a 0 ≡ lowWord x → getD record-words (a + 1) 0 ≡ highWord x → floatIn (fileOf p) (3 + a) ≡ x
-  header-float a x fit l e f = let n = long in float-at (fileOf p) 3 record-words header-holds a (3 + a) x fit refl (omega arith) e f
+  header-float : (a : ℕ) (x : Float) → T (fits binary64 x) → a < 91 → getD record-words a 0 ≡ lowWord x → getD record-words (a + 1) 0 ≡ highWord x → floatIn (fileOf p) (firstRecord + a) ≡ x
+  header-float a x fit l e f = let n = long in float-at (fileOf p) firstRecord record-words header-holds a (firstRecord + a) x fit refl (omega arith) e f
 
   pub options-back : headerOptions (fileOf p) ≡ p .options
   unfolding headerOptions headerRecord optionsWords boundsWords
@@ -140,23 +141,23 @@ module _ (p : Plot) (ok : Sound p) where
       )
 
   -- the place j of a field
-  place-holds : (j : ℕ) → j < 8 → Holds (fileOf p) (23 + 9 * j) (placeWords (p .count) (p .fields) j)
+  place-holds : (j : ℕ) → j < fieldPlaces → Holds (fileOf p) (firstField + fieldSize * j) (placeWords (p .count) (p .fields) j)
   unfolding headerRecord optionsWords boundsWords
   place-holds j l =
       let places = listed (placeWords (p .count) (p .fields)) 8 in
       let start = (p .vertices ∷ p .elements ∷ []) ++ (optionsWords (p .options) ++ (p .count ∷ [])) in
-      holds-row (fileOf p) 23 (23 + 9 * j) (placeWords (p .count) (p .fields)) 9 8 j (place-length (p .count) (p .fields)) l (omega arith)
-      (holds-right (fileOf p) 3 23 start places refl header-holds)
+      holds-row (fileOf p) firstField (firstField + fieldSize * j) (placeWords (p .count) (p .fields)) fieldSize fieldPlaces j (place-length (p .count) (p .fields)) l (omega arith)
+      (holds-right (fileOf p) firstRecord firstField start places refl header-holds)
 
   -- a place that is used
-  used-holds : (j : ℕ) → j < 8 → ltb j (p .count) ≡ true → Holds (fileOf p) (23 + 9 * j) (fieldWords (getD (p .fields) j (Level zero64)))
+  used-holds : (j : ℕ) → j < fieldPlaces → ltb j (p .count) ≡ true → Holds (fileOf p) (firstField + fieldSize * j) (fieldWords (getD (p .fields) j (Level zero64)))
   unfolding placeWords
   used-holds j l t = rw t at (place-holds j l)
 
-  pub field-back : (j : ℕ) → j < 8 → fieldAt (fileOf p) j ≡ keptField (p .count) (p .fields) j
+  pub field-back : (j : ℕ) → j < fieldPlaces → fieldAt (fileOf p) j ≡ keptField (p .count) (p .fields) j
   unfolding fieldAt keptField
   field-back j l = rw count-back (elim (split (ltb j (p .count))) [
-    | inl t ↦ rw t (field-from (fileOf p) (23 + 9 * j) (getD (p .fields) j (Level zero64)) (ok .fields-fit j (ltb-true j (p .count) t)) (used-holds j l t) (24 + 9 * j) (omega arith))
+    | inl t ↦ rw t (field-from (fileOf p) (firstField + fieldSize * j) (getD (p .fields) j (Level zero64)) (ok .fields-fit j (ltb-true j (p .count) t)) (used-holds j l t) (firstField + 1 + fieldSize * j) (omega arith))
     | inr f ↦ rw f
   ])
 
@@ -171,4 +172,4 @@ module _ (p : Plot) (ok : Sound p) where
           let f = getD (p .fields) j (Level zero64) in
           let few = ok .count-few in
           let size = field-length f in
-          ap (λ (w : ℕ). leb w 2) (used-holds j (omega arith) (lt-ltb j (p .count) l) 0 (23 + 9 * j) (omega arith) (omega arith)) ∙ kind-few f
+          ap (λ (w : ℕ). leb w ballKind) (used-holds j (omega arith) (lt-ltb j (p .count) l) 0 (firstField + fieldSize * j) (omega arith) (omega arith)) ∙ kind-few f

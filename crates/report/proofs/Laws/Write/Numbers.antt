@@ -9,6 +9,7 @@ use lib.Dec.{leb}
 use lib.ListN.{length}
 use borrow.Author.Tests.{le-ltb, le-leb, lt-leb, eq-eqb, ne-eqb, leb-true, leb-false}
 use Rattle.mesh.proofs.Laws.Bools.{split}
+use Rattle.report.specs.Format.{wordsABlock, bytesABlock, vertexKind, elementKind, verticesABlock, elementsABlock, mostVertices, mostElements}
 use Rattle.report.specs.Bytes.{wordIn, sumOf}
 use Rattle.report.specs.Block.{Plot, addsToZero, blockNumber, vertexBlocks, elementBlocks, kindOf, countOf, blocksFrom, bodyNumber, fileNumber, readingNumber}
 use Rattle.report.specs.Write.{blockFront, headerRecord, headerFront, vertexFront, elementFront, fileFront, fileBlock, blocksOf, fileOf, Sound}
@@ -29,10 +30,10 @@ module _ (p : Plot) where
   unfolding addsToZero
   adds k l =
       let b = fileBlock p k in
-      let sum = sum-back (fileOf p) (128 * k) b (λ j h. block-holds p k l j (128 * k + j) refl h) in
-      let all : sumOf (fileOf p) (128 * k) 128 % 2 ^ 32 ≡ 0 =
-      ap (λ (n : ℕ). sumOf (fileOf p) (128 * k) n % 2 ^ 32) (sym (block-length p k)) ∙ (sum ∙ closed-total (fileFront p k)) in
-      eq-eqb (sumOf (fileOf p) (128 * k) 128 % 2 ^ 32) 0 all
+      let sum = sum-back (fileOf p) (wordsABlock * k) b (λ j h. block-holds p k l j (wordsABlock * k + j) refl h) in
+      let all : sumOf (fileOf p) (wordsABlock * k) wordsABlock % 2 ^ 32 ≡ 0 =
+      ap (λ (n : ℕ). sumOf (fileOf p) (wordsABlock * k) n % 2 ^ 32) (sym (block-length p k)) ∙ (sum ∙ closed-total (fileFront p k)) in
+      eq-eqb (sumOf (fileOf p) (wordsABlock * k) wordsABlock % 2 ^ 32) 0 all
 
   -- a block with the kind and count that it is written with
   block-zero : (k kind count : ℕ) (records : List ℕ) → k < blocks → k < 2 ^ 32 → kind < 2 ^ 32 → count < 2 ^ 32
@@ -40,11 +41,11 @@ module _ (p : Plot) where
   unfolding blockNumber blockFront
   block-zero k kind count records l small kind-small count-small e =
       let whole = file-length p in
-      let h : Holds (fileOf p) (128 * k) (blockFront kind k count records) = rw e at (front-holds p k l) in
-      let a : wordIn (fileOf p) (128 * k) ≡ kind = word-at (fileOf p) (128 * k) (blockFront kind k count records) h 0 (128 * k) kind (omega arith) (omega arith) refl kind-small in
-      let b : wordIn (fileOf p) (128 * k + 1) ≡ k = word-at (fileOf p) (128 * k) (blockFront kind k count records) h 1 (128 * k + 1) k refl (omega arith) refl small in
-      let c : wordIn (fileOf p) (128 * k + 2) ≡ count = word-at (fileOf p) (128 * k) (blockFront kind k count records) h 2 (128 * k + 2) count refl (omega arith) refl count-small in
-      rw (le-ltb (length (fileOf p)) (512 * (k + 1)) (omega arith), adds k l, a, b, c, eq-eqb kind kind refl, eq-eqb k k refl, eq-eqb count count refl)
+      let h : Holds (fileOf p) (wordsABlock * k) (blockFront kind k count records) = rw e at (front-holds p k l) in
+      let a : wordIn (fileOf p) (wordsABlock * k) ≡ kind = word-at (fileOf p) (wordsABlock * k) (blockFront kind k count records) h 0 (wordsABlock * k) kind (omega arith) (omega arith) refl kind-small in
+      let b : wordIn (fileOf p) (wordsABlock * k + 1) ≡ k = word-at (fileOf p) (wordsABlock * k) (blockFront kind k count records) h 1 (wordsABlock * k + 1) k refl (omega arith) refl small in
+      let c : wordIn (fileOf p) (wordsABlock * k + 2) ≡ count = word-at (fileOf p) (wordsABlock * k) (blockFront kind k count records) h 2 (wordsABlock * k + 2) count refl (omega arith) refl count-small in
+      rw (le-ltb (length (fileOf p)) (bytesABlock * (k + 1)) (omega arith), adds k l, a, b, c, eq-eqb kind kind refl, eq-eqb k k refl, eq-eqb count count refl)
 
   -- a block of vertices is written as such
   pub vertex-front : (k : ℕ) → 0 < k → k ≤ vertexBlocks (p .vertices) → fileFront p k ≡ vertexFront (p .parameters) (p .points) (p .masks) (p .vertices) k
@@ -64,14 +65,14 @@ module _ (p : Plot) where
         let few = ok .vertices-few in
         let less = ok .elements-few in
         elim (split (leb k (vertexBlocks (p .vertices)))) [
-          | inl t ↦ rw t (block-zero k 2 (min 9 (p .vertices - 9 * (k - 1))) _ l (omega arith) (omega arith) (omega arith) (vertex-front k some (leb-true k (vertexBlocks (p .vertices)) t)))
-          | inr f ↦ rw f (block-zero k 3 (min 31 (p .elements - 31 * (k - 1 - vertexBlocks (p .vertices)))) _ l (omega arith) (omega arith) (omega arith) (element-front k (leb-false k (vertexBlocks (p .vertices)) f)))
+          | inl t ↦ rw t (block-zero k vertexKind (min verticesABlock (p .vertices - verticesABlock * (k - 1))) _ l (omega arith) (omega arith) (omega arith) (vertex-front k some (leb-true k (vertexBlocks (p .vertices)) t)))
+          | inr f ↦ rw f (block-zero k elementKind (min elementsABlock (p .elements - elementsABlock * (k - 1 - vertexBlocks (p .vertices)))) _ l (omega arith) (omega arith) (omega arith) (element-front k (leb-false k (vertexBlocks (p .vertices)) f)))
         ]
 
     -- so have all, and nothing is behind the last
     rest-zero : (n k : ℕ) → 0 < k → k + n ≡ blocks → blocksFrom (fileOf p) (p .vertices) (p .elements) n k ≡ 0
     unfolding blocksFrom
-    rest-zero zero k some e = let whole = file-length p in rw (le-ltb (512 * k) (length (fileOf p)) (omega arith))
+    rest-zero zero k some e = let whole = file-length p in rw (le-ltb (bytesABlock * k) (length (fileOf p)) (omega arith))
     rest-zero (suc n) k some e = rw (next-zero k some (omega arith)) (rest-zero n (k + 1) (omega arith) (omega arith))
 
     header-zero : blockNumber (fileOf p) 0 1 1 ≡ 0
@@ -81,7 +82,7 @@ module _ (p : Plot) where
     file-zero : fileNumber (fileOf p) ≡ 0
     unfolding fileNumber bodyNumber
     file-zero =
-        rw (header-zero, vertices-back p ok, elements-back p ok, le-ltb 24 (p .vertices) (ok .vertices-few), le-ltb 24 (p .elements) (ok .elements-few))
+        rw (header-zero, vertices-back p ok, elements-back p ok, le-ltb mostVertices (p .vertices) (ok .vertices-few), le-ltb mostElements (p .elements) (ok .elements-few))
         (rest-zero (vertexBlocks (p .vertices) + elementBlocks (p .elements)) 1 (omega arith) (omega arith))
 
     -- the file has no number

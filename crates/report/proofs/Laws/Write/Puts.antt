@@ -13,6 +13,7 @@ use Rattle.geometry.specs.declared.field.Field.the-variants.{Level}
 use Rattle.geometry.specs.Float.{zero64}
 use Rattle.mesh.specs.Words.{zeroWords}
 use Rattle.mesh.proofs.Laws.Parts.{getD-any}
+use Rattle.report.specs.Format.{recordRoom, fieldSize}
 use Rattle.report.specs.Bytes.{listed}
 use Rattle.report.specs.Write.{bytesOf, totalOf, checkOf, closed, blockFront, fieldWords, placeWords}
 use Rattle.report.specs.Put.{Put}
@@ -75,12 +76,12 @@ zeros-more i x y = put-as (replicate-append-replicate i 1 0) (put-then (zeroWord
 
 -- one more place of a field
 pub place-more : {o m n : List ℕ} {p s q t r u : ℕ} (count : ℕ) (fields : List Field) (j : ℕ) (d : Field) → j < length fields
-    → Put o m p s q t (listed (placeWords count fields) j) → Put m n q t r u (cond (ltb j count) (fieldWords (getD fields j d)) (zeroWords 9))
+    → Put o m p s q t (listed (placeWords count fields) j) → Put m n q t r u (cond (ltb j count) (fieldWords (getD fields j d)) (zeroWords fieldSize))
     → Put o n p s r u (listed (placeWords count fields) (j + 1))
 unfolding placeWords
 place-more count fields j d h x y =
     put-more (placeWords count fields) j x
-    (put-as (ap (λ (g : Field). cond (ltb j count) (fieldWords g) (zeroWords 9)) (getD-any fields j d (Level zero64) h)) y)
+    (put-as (ap (λ (g : Field). cond (ltb j count) (fieldWords g) (zeroWords fieldSize)) (getD-any fields j d (Level zero64) h)) y)
 
 -- ---- the end of a block
 
@@ -109,7 +110,7 @@ put-last {o} {m} {k} {p} {s} {q} {t} {r} {u} n w h z x y =
     step s z t e f = omega arith
 
 -- a block: its first three words, its records, and its end
-pub put-closed : {o m k n : List ℕ} {at q t h c r : ℕ} (kind number count : ℕ) (records : List ℕ) (z : ℕ) → z ≡ 124 - length records
+pub put-closed : {o m k n : List ℕ} {at q t h c r : ℕ} (kind number count : ℕ) (records : List ℕ) (z : ℕ) → z ≡ recordRoom - length records
     → Put o m at 0 q t (kind ∷ number ∷ count ∷ []) → Put m k q t h c records → Put k n h c r 0 (zeroWords z ++ (checkOf c ∷ []))
     → Put o n at 0 r 0 (closed (blockFront kind number count records))
 unfolding closed blockFront

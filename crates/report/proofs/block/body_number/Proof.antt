@@ -2,16 +2,17 @@
 use Prim.Native.Nat.{_+_}
 use native.Mathlib.Omega.{arith}
 use borrow.Author.Tests.{lt-ltb, le-ltb}
+use Rattle.report.specs.Format.{mostVertices, mostElements}
 use Rattle.report.proofs.Laws.Blocks.{body-many, body-few}
 use borrow.Author.Needs.{needs}
 use Rattle.report.proofs.block.body_number.Statement.{statement}
 use Rattle.report.proofs.block.body_number.Tie as tie
 
 returns : tie.Need-returns
-returns c = body-many (c .before .before .args .s .now) (c .before .before .args .vertices) (c .before .before .args .elements) (rw (lt-ltb 24 (c .before .before .args .vertices) (c .if1 .taken)))
+returns c = body-many (c .before .before .args .s .now) (c .before .before .args .vertices) (c .before .before .args .elements) (rw (lt-ltb mostVertices (c .before .before .args .vertices) (c .if1 .taken)))
 
 returns-2 : tie.Need-returns-2
-returns-2 c = body-many (c .before .before .before .args .s .now) (c .before .before .before .args .vertices) (c .before .before .before .args .elements) (rw (le-ltb 24 (c .before .before .before .args .vertices) (c .before .if1 .left), lt-ltb 24 (c .before .before .before .args .elements) (c .if2 .taken)))
+returns-2 c = body-many (c .before .before .before .args .s .now) (c .before .before .before .args .vertices) (c .before .before .before .args .elements) (rw (le-ltb mostVertices (c .before .before .before .args .vertices) (c .before .if1 .left), lt-ltb mostElements (c .before .before .before .args .elements) (c .if2 .taken)))
 
 vertex-blocks-requires : tie.Need-vertex-blocks-requires
 vertex-blocks-requires c κs = search needs

@@ -1,7 +1,8 @@
 -- `report::block::count_of` meets its contract. Assumes nothing.
-use Prim.Native.Nat.{_+_, _/_}
+use Prim.Native.Nat.{_+_, _/_, _-_}
 use native.Mathlib.Omega.{arith}
 use borrow.Author.Tests.{le-leb, lt-leb}
+use Rattle.report.specs.Format.{verticesABlock}
 use borrow.Author.Needs.{needs}
 use Rattle.report.proofs.block.count_of.Statement.{statement}
 use Rattle.report.proofs.block.count_of.Tie as tie
@@ -22,7 +23,7 @@ least-requires : tie.Need-least-requires
 least-requires c κs = search needs
 
 returns : tie.Need-returns
-returns c = rw (le-leb (c .before .before .before .before .before .args .k) ((c .before .before .before .before .before .args .vertices + 8) / 9) (omega arith)) (cc)
+returns c = rw (le-leb (c .before .before .before .before .before .args .k) ((c .before .before .before .before .before .args .vertices + (verticesABlock - 1)) / verticesABlock) (omega arith)) (cc)
 
 minus-requires-3 : tie.Need-minus-requires-3
 minus-requires-3 c κs = search needs
@@ -37,7 +38,7 @@ least-requires-2 : tie.Need-least-requires-2
 least-requires-2 c κs = search needs
 
 returns-2 : tie.Need-returns-2
-returns-2 c = rw (lt-leb (c .before .before .before .before .before .before .args .k) ((c .before .before .before .before .before .before .args .vertices + 8) / 9) (omega arith)) (cc (c .before .before .before .before .before .vertex-blocks .ensures .0))
+returns-2 c = rw (lt-leb (c .before .before .before .before .before .before .args .k) ((c .before .before .before .before .before .before .args .vertices + (verticesABlock - 1)) / verticesABlock) (omega arith)) (cc (c .before .before .before .before .before .vertex-blocks .ensures .0))
 
 pub count-of-spec : {M : Type 1} → statement M
 count-of-spec =

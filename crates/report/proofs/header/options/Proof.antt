@@ -7,8 +7,14 @@ use Rattle.report.proofs.header.options.Tie as tie
 word-requires : tie.Need-word-requires
 word-requires c κs = search needs
 
+add-word : tie.Need-add-word
+add-word c = search needs
+
 word-requires-2 : tie.Need-word-requires-2
 word-requires-2 c κs = search needs
+
+add-word-2 : tie.Need-add-word-2
+add-word-2 c = search needs
 
 word-requires-3 : tie.Need-word-requires-3
 word-requires-3 c κs = search needs
@@ -31,7 +37,9 @@ options-spec =
     tie.close
     (tie.spec
     word-requires
+    add-word
     word-requires-2
+    add-word-2
     word-requires-3
     bounds-requires
     word-requires-4

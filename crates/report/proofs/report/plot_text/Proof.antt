@@ -5,8 +5,9 @@ use native.Mathlib.Omega.{arith}
 use lib.Ieee.{ofBits}
 use lib.ListN.{length-replicate}
 use Rattle.geometry.specs.Float.{zero64}
-use Rattle.report.specs.Report.{blank}
+use Rattle.report.specs.Report.{elementRoom, wordRoom, floatRoom, blank}
 use Rattle.report.proofs.Laws.Plot.{read-fields, plot-printed}
+use Rattle.report.proofs.Laws.Counted.{run-ready}
 use borrow.Author.Needs.{needs}
 use Rattle.report.proofs.report.plot_text.Statement.{statement}
 use Rattle.report.proofs.report.plot_text.Tie as tie
@@ -41,36 +42,48 @@ word-requires c κs = search needs
 fields-requires : tie.Need-fields-requires
 fields-requires c κs = search needs
 
-slice-aggregate-from-improve : tie.Need-slice-aggregate-from-improve
-slice-aggregate-from-improve c = search needs
+slice-aggregate-run-passes : tie.Need-slice-aggregate-run-passes
+slice-aggregate-run-passes c = search needs
 
-slice-aggregate-from-improve-2 : tie.Need-slice-aggregate-from-improve-2
-slice-aggregate-from-improve-2 c = search needs
+slice-aggregate-run-passes-2 : tie.Need-slice-aggregate-run-passes-2
+slice-aggregate-run-passes-2 c = search needs
 
-slice-aggregate-from-improve-3 : tie.Need-slice-aggregate-from-improve-3
-slice-aggregate-from-improve-3 c = search needs
+slice-aggregate-run-passes-3 : tie.Need-slice-aggregate-run-passes-3
+slice-aggregate-run-passes-3 c = search needs
 
-slice-aggregate-from-improve-4 : tie.Need-slice-aggregate-from-improve-4
-slice-aggregate-from-improve-4 c = search needs
+slice-aggregate-run-passes-4 : tie.Need-slice-aggregate-run-passes-4
+slice-aggregate-run-passes-4 c = search needs
 
-slice-aggregate-from-improve-5 : tie.Need-slice-aggregate-from-improve-5
-slice-aggregate-from-improve-5 c = search needs
+slice-aggregate-run-passes-5 : tie.Need-slice-aggregate-run-passes-5
+slice-aggregate-run-passes-5 c = search needs
 
-slice-aggregate-from-improve-6 : tie.Need-slice-aggregate-from-improve-6
-slice-aggregate-from-improve-6 c = search needs
+slice-aggregate-run-passes-6 : tie.Need-slice-aggregate-run-passes-6
+slice-aggregate-run-passes-6 c = search needs
 
-slice-aggregate-from-improve-7 : tie.Need-slice-aggregate-from-improve-7
-slice-aggregate-from-improve-7 c = search needs
+slice-aggregate-run-passes-7 : tie.Need-slice-aggregate-run-passes-7
+slice-aggregate-run-passes-7 c = search needs
 
-from-improve-requires : tie.Need-from-improve-requires
-from-improve-requires c κs = let n = read-fields (c .before .before .before .before .before .before .before .before .before .before .before .before .before .before .before .before .before .before .before .before .before .before .before .before .before .before .args .s .now) ((c .before .before .before .before .before .before .before .before .before .before .before .before .before .before .before .before .before .before .before .before .before .before .before .before .before .before .pre)) in let e = c .before .before .before .before .before .before .before .before .before .before .before .before .before .before .before .before .before .read-plot .kept .1 .1 .1 .1 .0 ∙ length-replicate {A = ℕ} 288 0 in let w = c .before .before .before .before .before .before .before .before .before .before .before .before .before .before .before .before .before .read-plot .kept .1 .1 .1 .1 .1 .1 .0 ∙ length-replicate {A = ℕ} 7936 0 in record { fields = omega (arith, n, c .before .before .before .before .before .before .before .before .word .ensures); elements = omega (arith, e); work = omega (arith, w) }
+run-passes-requires : tie.Need-run-passes-requires
+run-passes-requires c κs = search needs
+
+slice-aggregate-print-run : tie.Need-slice-aggregate-print-run
+slice-aggregate-print-run c = search needs
+
+slice-aggregate-print-run-2 : tie.Need-slice-aggregate-print-run-2
+slice-aggregate-print-run-2 c = search needs
+
+slice-aggregate-print-run-3 : tie.Need-slice-aggregate-print-run-3
+slice-aggregate-print-run-3 c = search needs
+
+print-run-requires : tie.Need-print-run-requires
+print-run-requires c κs = let n = read-fields (c .before .before .before .before .before .before .before .before .before .before .before .before .before .before .before .before .before .before .before .before .before .before .before .before .before .before .before .before .before .before .before .before .before .before .before .before .before .args .s .now) ((c .before .before .before .before .before .before .before .before .before .before .before .before .before .before .before .before .before .before .before .before .before .before .before .before .before .before .before .before .before .before .before .before .before .before .before .before .before .pre)) in let e = c .before .before .before .before .before .before .before .before .before .before .before .run-passes .kept .1 .1 .1 .1 .1 .0 ∙ c .before .before .before .before .before .before .before .before .before .before .before .before .before .before .before .before .before .before .before .before .before .before .before .before .before .before .before .before .read-plot .kept .1 .1 .1 .1 .0 ∙ length-replicate {A = ℕ} elementRoom 0 in let w = c .before .before .before .before .before .before .before .before .before .before .before .run-passes .kept .1 .1 .1 .1 .1 .1 .1 .0 ∙ c .before .before .before .before .before .before .before .before .before .before .before .before .before .before .before .before .before .before .before .before .before .before .before .before .before .before .before .before .read-plot .kept .1 .1 .1 .1 .1 .1 .0 ∙ length-replicate {A = ℕ} wordRoom 0 in (record { fields = omega (arith, n, c .before .before .before .before .before .before .before .before .before .before .before .before .before .before .before .before .before .before .before .before .word .ensures); elements = omega (arith, e); work = omega (arith, w) }, run-ready _ _ _ _ (c .before .before .before .before .before .before .before .before .before .before .before .run-passes .ensures .0))
 
 same-length : tie.Need-same-length
 same-length c = search needs
 
 returns : tie.Need-returns
 unfolding blank ofBits
-returns c = (plot-printed (c .before .before .before .before .before .before .before .before .before .before .before .before .before .before .before .before .before .before .before .before .before .before .before .before .before .before .before .before .before .before .before .before .before .before .before .before .args .s .now) _ _ _ _ _ _ (c .before .before .before .before .before .before .before .before .before .before .before .before .before .before .before .before .before .before .before .options .ensures) (c .before .before .before .before .before .before .before .before .before .before .before .before .before .before .before .before .before .fields .ensures) (c .before .before .before .before .before .before .before .before .before .before .before .before .before .before .before .before .before .before .word .ensures) (c .before .before .before .before .before .before .before .before .before .before .before .before .before .before .before .before .before .before .before .before .before .before .before .before .before .before .before .read-plot .kept .1 .1 .1 .1 .1 .1 .0 ∙ length-replicate {A = ℕ} 7936 0) (length-replicate 384 zero64) (c .before .before .before .before .before .before .before .before .before .before .before .before .before .before .before .before .before .before .before .before .before .before .before .before .before .before .before .read-plot .ensures) (c .before .before .before .before .before .before .before .before .before .from-improve .ensures .0), c .before .before .before .before .before .before .before .before .before .from-improve .ensures .1)
+returns c = (plot-printed (c .before .before .before .before .before .before .before .before .before .before .before .before .before .before .before .before .before .before .before .before .before .before .before .before .before .before .before .before .before .before .before .before .before .before .before .before .before .before .before .before .before .args .s .now) _ _ _ _ _ _ _ _ _ _ _ _ (c .before .before .before .before .before .before .before .before .before .before .before .before .before .before .before .before .before .before .before .before .before .before .before .before .before .options .ensures) (c .before .before .before .before .before .before .before .before .before .before .before .before .before .before .before .before .before .before .before .before .before .before .before .fields .ensures) (c .before .before .before .before .before .before .before .before .before .before .before .before .before .before .before .before .before .before .before .before .before .before .before .before .word .ensures) (c .before .before .before .before .before .before .before .before .before .before .before .before .before .before .before .before .before .before .before .before .before .before .before .before .before .before .before .before .before .before .before .before .read-plot .kept .1 .1 .1 .1 .1 .1 .0 ∙ length-replicate {A = ℕ} wordRoom 0) (length-replicate floatRoom zero64) (c .before .before .before .before .before .before .before .before .before .before .before .before .before .before .before .before .before .before .before .before .before .before .before .before .before .before .before .before .before .before .before .before .read-plot .ensures) (c .before .before .before .before .before .before .before .before .before .before .before .before .before .before .before .run-passes .ensures .0) (c .before .before .before .print-run .ensures .0), c .before .before .before .print-run .ensures .1)
 
 pub plot-text-spec : {M : Type 1} → statement M
 plot-text-spec =
@@ -86,13 +99,17 @@ plot-text-spec =
     options-requires
     word-requires
     fields-requires
-    slice-aggregate-from-improve
-    slice-aggregate-from-improve-2
-    slice-aggregate-from-improve-3
-    slice-aggregate-from-improve-4
-    slice-aggregate-from-improve-5
-    slice-aggregate-from-improve-6
-    slice-aggregate-from-improve-7
-    from-improve-requires
+    slice-aggregate-run-passes
+    slice-aggregate-run-passes-2
+    slice-aggregate-run-passes-3
+    slice-aggregate-run-passes-4
+    slice-aggregate-run-passes-5
+    slice-aggregate-run-passes-6
+    slice-aggregate-run-passes-7
+    run-passes-requires
+    slice-aggregate-print-run
+    slice-aggregate-print-run-2
+    slice-aggregate-print-run-3
+    print-run-requires
     same-length
     returns)

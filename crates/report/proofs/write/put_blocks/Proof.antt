@@ -3,6 +3,7 @@ use mathlib.Core.Path.{_≡_, _∙_, refl}
 use Prim.Native.Nat.{_-_, _*_, _≤_}
 use native.Mathlib.Omega.{arith}
 use lib.ListN.{length}
+use Rattle.report.specs.Format.{bytesABlock}
 use Rattle.report.specs.Bytes.{listed}
 use Rattle.report.specs.Write.{fileBlock}
 use Rattle.report.specs.Put.{Put}
@@ -12,7 +13,7 @@ use Rattle.report.proofs.write.put_blocks.Statement.{statement}
 use Rattle.report.proofs.write.put_blocks.Tie as tie
 
 abbrev Inv-loop : tie.InvT-loop
-Inv-loop out₀ o count fields vertices elements parameters points masks corners n at₀ k₀ out at k = (k ≤ n) × (length out ≡ length out₀) × (at ≡ 512 * k) × Put out₀ out 0 0 at 0 (listed (fileBlock (record { options = o; count = count; fields = fields; vertices = vertices; elements = elements; parameters = parameters; points = points; masks = masks; corners = corners })) k)
+Inv-loop out₀ o count fields vertices elements parameters points masks corners n at₀ k₀ out at k = (k ≤ n) × (length out ≡ length out₀) × (at ≡ bytesABlock * k) × Put out₀ out 0 0 at 0 (listed (fileBlock (record { options = o; count = count; fields = fields; vertices = vertices; elements = elements; parameters = parameters; points = points; masks = masks; corners = corners })) k)
 
 abbrev μ-loop : tie.MeasureT-loop
 μ-loop out₀ o count fields vertices elements parameters points masks corners n at₀ k₀ out at k = n - k

@@ -2,6 +2,7 @@
 use mathlib.Core.Path.{ap}
 use Prim.Native.Nat.{ℕ, _-_, _*_}
 use native.Mathlib.Omega.{arith}
+use Rattle.report.specs.Format.{recordRoom, elementsABlock}
 use Rattle.report.specs.Write.{closed, blockFront, elementRecord, recordsFrom, elementFront}
 use Rattle.report.proofs.Laws.Write.Puts.{put-as, put-closed}
 use Rattle.report.proofs.Laws.Write.Sizes.{elements-length}
@@ -44,7 +45,7 @@ same-length c = search needs
 
 returns : tie.Need-returns
 unfolding elementFront
-returns c = let first = 31 * (c .before .before .before .before .before .before .before .before .before .before .before .before .before .before .before .args .k - 1 - c .before .before .before .before .before .before .before .before .before .before .before .before .before .before .before .args .before) in let n = c .before .before .before .before .before .before .before .before .before .before .before .before .least .result in let l = elements-length (c .before .before .before .before .before .before .before .before .before .before .before .before .before .before .before .args .corners .now) first n in (put-as (ap (λ (m : ℕ). closed (blockFront 3 (c .before .before .before .before .before .before .before .before .before .before .before .before .before .before .before .args .k) m (recordsFrom (elementRecord (c .before .before .before .before .before .before .before .before .before .before .before .before .before .before .before .args .corners .now)) first m))) (c .before .before .before .before .before .before .before .before .before .before .before .before .least .ensures)) (put-closed 3 (c .before .before .before .before .before .before .before .before .before .before .before .before .before .before .before .args .k) n (recordsFrom (elementRecord (c .before .before .before .before .before .before .before .before .before .before .before .before .before .before .before .args .corners .now)) first n) (124 - 4 * n) (omega arith) (c .before .before .before .before .before .before .before .before .before .before .put-front .ensures .0) (c .before .before .before .before .before .before .put-elements .ensures .0) (c .before .before .put-end .ensures .0)), omega (arith, c .before .before .before .before .before .before .before .before .before .before .put-front .ensures .1, c .before .before .before .before .before .before .put-elements .ensures .1, c .before .before .put-end .ensures .1))
+returns c = let first = elementsABlock * (c .before .before .before .before .before .before .before .before .before .before .before .before .before .before .before .args .k - 1 - c .before .before .before .before .before .before .before .before .before .before .before .before .before .before .before .args .before) in let n = c .before .before .before .before .before .before .before .before .before .before .before .before .least .result in let l = elements-length (c .before .before .before .before .before .before .before .before .before .before .before .before .before .before .before .args .corners .now) first n in (put-as (ap (λ (m : ℕ). closed (blockFront 3 (c .before .before .before .before .before .before .before .before .before .before .before .before .before .before .before .args .k) m (recordsFrom (elementRecord (c .before .before .before .before .before .before .before .before .before .before .before .before .before .before .before .args .corners .now)) first m))) (c .before .before .before .before .before .before .before .before .before .before .before .before .least .ensures)) (put-closed 3 (c .before .before .before .before .before .before .before .before .before .before .before .before .before .before .before .args .k) n (recordsFrom (elementRecord (c .before .before .before .before .before .before .before .before .before .before .before .before .before .before .before .args .corners .now)) first n) (recordRoom - 4 * n) (omega arith) (c .before .before .before .before .before .before .before .before .before .before .put-front .ensures .0) (c .before .before .before .before .before .before .put-elements .ensures .0) (c .before .before .put-end .ensures .0)), omega (arith, c .before .before .before .before .before .before .before .before .before .before .put-front .ensures .1, c .before .before .before .before .before .before .put-elements .ensures .1, c .before .before .put-end .ensures .1))
 
 pub put-element-block-spec : {M : Type 1} → statement M
 put-element-block-spec =

@@ -1,5 +1,7 @@
 -- `report::write::put_header` meets its contract: the record, then the end. Assumes nothing.
 use native.Mathlib.Omega.{arith}
+use Prim.Native.Nat.{_-_}
+use Rattle.report.specs.Format.{headerKind, recordRoom, headerSize}
 use Rattle.report.specs.Write.{headerRecord, headerFront}
 use Rattle.report.proofs.Laws.Write.Puts.{put-closed}
 use Rattle.report.proofs.Laws.Write.Sizes.{header-rest}
@@ -13,6 +15,9 @@ put-front-requires c κs = search needs
 put-record-requires : tie.Need-put-record-requires
 put-record-requires c κs = search needs
 
+sub-put-end : tie.Need-sub-put-end
+sub-put-end c = search needs
+
 put-end-requires : tie.Need-put-end-requires
 put-end-requires c κs = search needs
 
@@ -21,7 +26,7 @@ same-length c = search needs
 
 returns : tie.Need-returns
 unfolding headerFront
-returns c = (put-closed 1 0 1 (headerRecord (c .before .before .before .before .before .before .before .before .before .before .before .before .before .args .o) (c .before .before .before .before .before .before .before .before .before .before .before .before .before .args .count) (c .before .before .before .before .before .before .before .before .before .before .before .before .before .args .fields) (c .before .before .before .before .before .before .before .before .before .before .before .before .before .args .vertices) (c .before .before .before .before .before .before .before .before .before .before .before .before .before .args .elements)) 32 (header-rest (c .before .before .before .before .before .before .before .before .before .before .before .before .before .args .o) (c .before .before .before .before .before .before .before .before .before .before .before .before .before .args .count) (c .before .before .before .before .before .before .before .before .before .before .before .before .before .args .fields) (c .before .before .before .before .before .before .before .before .before .before .before .before .before .args .vertices) (c .before .before .before .before .before .before .before .before .before .before .before .before .before .args .elements)) (c .before .before .before .before .before .before .before .before .before .before .put-front .ensures .0) (c .before .before .before .before .before .before .put-record .ensures .0) (c .before .before .put-end .ensures .0), omega (arith, c .before .before .before .before .before .before .before .before .before .before .put-front .ensures .1, c .before .before .before .before .before .before .put-record .ensures .1, c .before .before .put-end .ensures .1))
+returns c = (put-closed headerKind 0 1 (headerRecord (c .before .before .before .before .before .before .before .before .before .before .before .before .before .args .o) (c .before .before .before .before .before .before .before .before .before .before .before .before .before .args .count) (c .before .before .before .before .before .before .before .before .before .before .before .before .before .args .fields) (c .before .before .before .before .before .before .before .before .before .before .before .before .before .args .vertices) (c .before .before .before .before .before .before .before .before .before .before .before .before .before .args .elements)) (recordRoom - headerSize) (header-rest (c .before .before .before .before .before .before .before .before .before .before .before .before .before .args .o) (c .before .before .before .before .before .before .before .before .before .before .before .before .before .args .count) (c .before .before .before .before .before .before .before .before .before .before .before .before .before .args .fields) (c .before .before .before .before .before .before .before .before .before .before .before .before .before .args .vertices) (c .before .before .before .before .before .before .before .before .before .before .before .before .before .args .elements)) (c .before .before .before .before .before .before .before .before .before .before .put-front .ensures .0) (c .before .before .before .before .before .before .put-record .ensures .0) (c .before .before .put-end .ensures .0), omega (arith, c .before .before .before .before .before .before .before .before .before .before .put-front .ensures .1, c .before .before .before .before .before .before .put-record .ensures .1, c .before .before .put-end .ensures .1))
 
 pub put-header-spec : {M : Type 1} → statement M
 put-header-spec =
@@ -29,6 +34,7 @@ put-header-spec =
     (tie.spec
     put-front-requires
     put-record-requires
+    sub-put-end
     put-end-requires
     same-length
     returns)

@@ -5,6 +5,7 @@ use native.Mathlib.Omega.{arith}
 use lib.Ieee.{nan}
 use lib.ListN.{length}
 use Rattle.geometry.specs.declared.field.Field.the-variants.{Level}
+use Rattle.report.specs.Format.{fieldPlaces, fieldSize}
 use Rattle.report.specs.Bytes.{listed}
 use Rattle.report.specs.Write.{placeWords}
 use Rattle.report.specs.Put.{Put}
@@ -14,7 +15,7 @@ use Rattle.report.proofs.write.put_places.Statement.{statement}
 use Rattle.report.proofs.write.put_places.Tie as tie
 
 abbrev Inv-loop : tie.InvT-loop
-Inv-loop out₀ count fields n d₀ j₀ out d j = (j ≤ 8) × (length out ≡ length out₀) × (d .at ≡ d₀ .at + 36 * j) × Put out₀ out (d₀ .at) (d₀ .sum) (d .at) (d .sum) (listed (placeWords count fields) j)
+Inv-loop out₀ count fields n d₀ j₀ out d j = (j ≤ fieldPlaces) × (length out ≡ length out₀) × (d .at ≡ d₀ .at + 4 * fieldSize * j) × Put out₀ out (d₀ .at) (d₀ .sum) (d .at) (d .sum) (listed (placeWords count fields) j)
 
 abbrev μ-loop : tie.MeasureT-loop
 μ-loop out₀ count fields n d₀ j₀ out d j = 8 - j

@@ -2,6 +2,7 @@
 use mathlib.Core.Path.{ap}
 use Prim.Native.Nat.{ℕ, _-_, _*_}
 use native.Mathlib.Omega.{arith}
+use Rattle.report.specs.Format.{recordRoom, vertexSize, verticesABlock}
 use Rattle.report.specs.Write.{closed, blockFront, vertexRecord, recordsFrom, vertexFront}
 use Rattle.report.proofs.Laws.Write.Puts.{put-as, put-closed}
 use Rattle.report.proofs.Laws.Write.Sizes.{vertices-length}
@@ -41,7 +42,7 @@ same-length c = search needs
 
 returns : tie.Need-returns
 unfolding vertexFront
-returns c = let first = 9 * (c .before .before .before .before .before .before .before .before .before .before .before .before .before .before .before .before .before .args .k - 1) in let n = c .before .before .before .before .before .before .before .before .before .before .before .before .least .result in let l = vertices-length (c .before .before .before .before .before .before .before .before .before .before .before .before .before .before .before .before .before .args .parameters .now) (c .before .before .before .before .before .before .before .before .before .before .before .before .before .before .before .before .before .args .points .now) (c .before .before .before .before .before .before .before .before .before .before .before .before .before .before .before .before .before .args .masks .now) first n in (put-as (ap (λ (m : ℕ). closed (blockFront 2 (c .before .before .before .before .before .before .before .before .before .before .before .before .before .before .before .before .before .args .k) m (recordsFrom (vertexRecord (c .before .before .before .before .before .before .before .before .before .before .before .before .before .before .before .before .before .args .parameters .now) (c .before .before .before .before .before .before .before .before .before .before .before .before .before .before .before .before .before .args .points .now) (c .before .before .before .before .before .before .before .before .before .before .before .before .before .before .before .before .before .args .masks .now)) first m))) (c .before .before .before .before .before .before .before .before .before .before .before .before .least .ensures)) (put-closed 2 (c .before .before .before .before .before .before .before .before .before .before .before .before .before .before .before .before .before .args .k) n (recordsFrom (vertexRecord (c .before .before .before .before .before .before .before .before .before .before .before .before .before .before .before .before .before .args .parameters .now) (c .before .before .before .before .before .before .before .before .before .before .before .before .before .before .before .before .before .args .points .now) (c .before .before .before .before .before .before .before .before .before .before .before .before .before .before .before .before .before .args .masks .now)) first n) (124 - 13 * n) (omega arith) (c .before .before .before .before .before .before .before .before .before .before .put-front .ensures .0) (c .before .before .before .before .before .before .put-vertices .ensures .0) (c .before .before .put-end .ensures .0)), omega (arith, c .before .before .before .before .before .before .before .before .before .before .put-front .ensures .1, c .before .before .before .before .before .before .put-vertices .ensures .1, c .before .before .put-end .ensures .1))
+returns c = let first = verticesABlock * (c .before .before .before .before .before .before .before .before .before .before .before .before .before .before .before .before .before .args .k - 1) in let n = c .before .before .before .before .before .before .before .before .before .before .before .before .least .result in let l = vertices-length (c .before .before .before .before .before .before .before .before .before .before .before .before .before .before .before .before .before .args .parameters .now) (c .before .before .before .before .before .before .before .before .before .before .before .before .before .before .before .before .before .args .points .now) (c .before .before .before .before .before .before .before .before .before .before .before .before .before .before .before .before .before .args .masks .now) first n in (put-as (ap (λ (m : ℕ). closed (blockFront 2 (c .before .before .before .before .before .before .before .before .before .before .before .before .before .before .before .before .before .args .k) m (recordsFrom (vertexRecord (c .before .before .before .before .before .before .before .before .before .before .before .before .before .before .before .before .before .args .parameters .now) (c .before .before .before .before .before .before .before .before .before .before .before .before .before .before .before .before .before .args .points .now) (c .before .before .before .before .before .before .before .before .before .before .before .before .before .before .before .before .before .args .masks .now)) first m))) (c .before .before .before .before .before .before .before .before .before .before .before .before .least .ensures)) (put-closed 2 (c .before .before .before .before .before .before .before .before .before .before .before .before .before .before .before .before .before .args .k) n (recordsFrom (vertexRecord (c .before .before .before .before .before .before .before .before .before .before .before .before .before .before .before .before .before .args .parameters .now) (c .before .before .before .before .before .before .before .before .before .before .before .before .before .before .before .before .before .args .points .now) (c .before .before .before .before .before .before .before .before .before .before .before .before .before .before .before .before .before .args .masks .now)) first n) (recordRoom - vertexSize * n) (omega arith) (c .before .before .before .before .before .before .before .before .before .before .put-front .ensures .0) (c .before .before .before .before .before .before .put-vertices .ensures .0) (c .before .before .put-end .ensures .0)), omega (arith, c .before .before .before .before .before .before .before .before .before .before .put-front .ensures .1, c .before .before .before .before .before .before .put-vertices .ensures .1, c .before .before .put-end .ensures .1))
 
 pub put-vertex-block-spec : {M : Type 1} → statement M
 put-vertex-block-spec =

@@ -3,6 +3,7 @@ use mathlib.Core.Path.{_≡_, _∙_, refl}
 use Prim.Native.Nat.{ℕ, _+_, _-_, _*_, _≤_}
 use native.Mathlib.Omega.{arith}
 use lib.ListN.{length}
+use Rattle.report.specs.Format.{vertexSize}
 use Rattle.report.specs.Bytes.{listed}
 use Rattle.report.specs.Write.{vertexRecord, recordsFrom}
 use Rattle.report.specs.Put.{Put}
@@ -12,7 +13,7 @@ use Rattle.report.proofs.write.put_vertices.Statement.{statement}
 use Rattle.report.proofs.write.put_vertices.Tie as tie
 
 abbrev Inv-loop : tie.InvT-loop
-Inv-loop out₀ parameters points masks first n d₀ i₀ out d i = (i ≤ n) × (length out ≡ length out₀) × (d .at ≡ d₀ .at + 52 * i) × Put out₀ out (d₀ .at) (d₀ .sum) (d .at) (d .sum) (recordsFrom (vertexRecord parameters points masks) first i)
+Inv-loop out₀ parameters points masks first n d₀ i₀ out d i = (i ≤ n) × (length out ≡ length out₀) × (d .at ≡ d₀ .at + 4 * vertexSize * i) × Put out₀ out (d₀ .at) (d₀ .sum) (d .at) (d .sum) (recordsFrom (vertexRecord parameters points masks) first i)
 
 abbrev μ-loop : tie.MeasureT-loop
 μ-loop out₀ parameters points masks first n d₀ i₀ out d i = n - i

@@ -1,0 +1,3 @@
+-- What the functions for other programs read from their arrays, and what a caller gets.
+pub mod Arrays
+pub mod Called

@@ -1,2 +1,0 @@
--- Laws of the interface's definitions.
-pub mod Laws

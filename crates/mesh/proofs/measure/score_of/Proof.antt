@@ -1,0 +1,33 @@
+-- `mesh::measure::score_of` meets its contract. Assumes nothing.
+use borrow.Author.Needs.{needs}
+use Rattle.mesh.proofs.measure.score_of.Statement.{statement}
+use Rattle.mesh.proofs.measure.score_of.Tie as tie
+
+vertex-point-requires : tie.Need-vertex-point-requires
+vertex-point-requires c κs = search needs
+
+vertex-point-requires-2 : tie.Need-vertex-point-requires-2
+vertex-point-requires-2 c κs = search needs
+
+vertex-point-requires-3 : tie.Need-vertex-point-requires-3
+vertex-point-requires-3 c κs = search needs
+
+vertex-point-requires-4 : tie.Need-vertex-point-requires-4
+vertex-point-requires-4 c κs = search needs
+
+score-requires : tie.Need-score-requires
+score-requires c κs = search needs
+
+returns : tie.Need-returns
+returns c = cc
+
+pub score-of-spec : {M : Type 1} → statement M
+score-of-spec =
+    tie.close
+    (tie.spec
+    vertex-point-requires
+    vertex-point-requires-2
+    vertex-point-requires-3
+    vertex-point-requires-4
+    score-requires
+    returns)
