@@ -386,14 +386,20 @@ def types_only(text):
 
 def copy_crate(name, to):
     shutil.copytree(HOME / "crates" / name / "specs", to / "specs")
-    (to / "src").mkdir()
-    modules = []
-    for file in sorted((HOME / "crates" / name / "src").glob("*.rt")):
+    home = HOME / "crates" / name / "src"
+    modules = {home / "lib.rt": ""}
+    for file in sorted(home.rglob("*.rt")):
         text = types_only(file.read_text())
-        if file.stem != "lib" and text:
-            modules.append(file.stem)
-            (to / "src" / file.name).write_text(text)
-    (to / "src" / "lib.rt").write_text("".join(f"pub mod {m};\n" for m in modules))
+        if file != home / "lib.rt" and text:
+            modules[file] = text
+            if file.parent != home:
+                modules.setdefault(file.parent.with_suffix(".rt"), "")
+    for file, text in modules.items():
+        folder = home if file == home / "lib.rt" else file.with_suffix("")
+        inner = "".join(f"pub mod {f.stem};\n" for f in sorted(modules) if f.parent == folder and f.name != "lib.rt")
+        there = to / "src" / file.relative_to(home)
+        there.parent.mkdir(parents=True, exist_ok=True)
+        there.write_text(inner + text)
 
 
 def edit_words(edit):

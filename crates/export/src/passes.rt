@@ -15,7 +15,7 @@ ghost use lib.Ieee.{Float};
 ghost use lib.ListN.{length, take};
 ghost use Rattle.mesh.specs.Words.{pointsOf, copied, zeroWords, zeroFloats};
 ghost use Rattle.mesh.specs.Intake.{intake, givenOf};
-ghost use Rattle.mesh.specs.LinkRows.{stratumOf, linkOkIn};
+ghost use Rattle.mesh.specs.Feature.{stratumOf, linkOkIn};
 ghost use Rattle.repair.specs.Project.{project};
 ghost use Rattle.halmafir.specs.Arrays.{pointOf, boundsOf, fieldsOf, countOf, settingsOf};
 ghost use Rattle.export.specs.Answers.{asNumber, pointOver};

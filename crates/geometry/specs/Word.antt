@@ -1,13 +1,7 @@
--- An f64 as words (document 01, "Block": "An f64 is two words, low first"), and as a number that keeps the order. `toBits` and `ofBits` of
+-- An f64 as words (document 01, "Block": "An f64 is two words, low first"). `toBits` and `ofBits` of
 -- `lib.Ieee` are IEEE 754's interchange format (3.4), with one NaN, whose pattern is 0x7FF8000000000000. Definitions only.
-use Prim.Native.Nat.{ℕ, _+_, _-_, _*_, _/_, _%_, _^_}
-use mathlib.Core.Bool.{cond}
-use lib.Ieee.{Float, binary64, lt, isNan, toBits, ofBits}
-use Rattle.geometry.specs.Float.{zero64}
-
--- the bits of an x above 0, 0 for what is not above 0, and above all others a NaN
-abbrev pub orderBits : Float → ℕ
-orderBits x = cond (lt zero64 x) (toBits binary64 x) (cond (isNan x) (2 ^ 64 - 1) 0)
+use Prim.Native.Nat.{ℕ, _+_, _*_, _/_, _%_, _^_}
+use lib.Ieee.{Float, binary64, toBits, ofBits}
 
 -- "An f64 is two words, low first"
 abbrev pub fromWords : ℕ → ℕ → Float

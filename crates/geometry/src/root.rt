@@ -6,7 +6,7 @@ ghost use mathlib.Core.Path.{_≡_};
 ghost use Prim.Native.Nat.{_+_, _*_, _^_, _≤_, _<_};
 ghost use mathlib.Core.Logic.{_⊎_};
 ghost use Rattle.geometry.specs.Root.{number, rootOf, sqrt};
-ghost use Rattle.geometry.specs.Whole.{NearRoot, Halved};
+ghost use Rattle.geometry.specs.inside.Whole.{NearRoot, Halved};
 
 // The whole root of y * 2 ^ 53, cut: 54 binary digits, one a turn. s is twice the root so far, and
 // b / 2 the weight of the digit that is tried.

@@ -1,7 +1,8 @@
 // An f64 as bits: two 32-bit words, and a number that keeps the order.
 ghost use mathlib.Core.Path.{_≡_};
 ghost use lib.Ieee.{binary64, toBits};
-ghost use Rattle.geometry.specs.Word.{orderBits, fromWords, lowWord, highWord};
+ghost use Rattle.geometry.specs.Word.{fromWords, lowWord, highWord};
+ghost use Rattle.geometry.specs.inside.Word.{orderBits};
 
 // The bits of an x above 0, 0 for what is not above 0, and the largest number for a NaN: between
 // values that are not negative the numbers compare as the values do.

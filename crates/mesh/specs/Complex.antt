@@ -3,8 +3,8 @@
 -- Assumes nothing.
 use mathlib.Core.Path.{_≡_}
 use mathlib.Core.Bool.{Bool, true, false, cond, _&&_, _||_}
-use mathlib.Core.List.{List, [], _∷_, _++_, map, List·Memᴰ}
-use Prim.Native.Nat.{ℕ, zero, suc, _+_, _<_}
+use mathlib.Core.List.{List, [], _∷_, _++_, map}
+use Prim.Native.Nat.{ℕ, zero, suc, _+_}
 use lib.Dec.{eqb}
 use lib.IntN.{ℤ, subℕ}
 use lib.ListN.{length}
@@ -44,15 +44,6 @@ upTo (suc n) = n ∷ upTo n
 unfoldable pub faces : ℕ → ℕ → List (List ℕ) → ℕ
 faces k n es = length (keep (λ σ. within σ es) (choose k (upTo n)))
 
--- the number of elements that contain σ
-unfoldable pub star : List ℕ → List (List ℕ) → ℕ
-star σ es = length (keep (sub σ) es)
-
--- V - E + F - T is the same for two lists of elements, with vertices below n and below m
-abbrev pub SameCount : ℕ → List (List ℕ) → ℕ → List (List ℕ) → Type 0
-SameCount n es m fs =
-    faces 1 n es + faces 3 n es + (faces 2 m fs + length fs) ≡ faces 1 m fs + faces 3 m fs + (faces 2 n es + length es)
-
 -- V - E + F - T itself
 abbrev pub alternating : ℕ → List (List ℕ) → ℤ
 alternating n es = subℕ (faces 1 n es + faces 3 n es) (faces 2 n es + length es)
@@ -65,23 +56,3 @@ Nodup (x ∷ xs) = (mem x xs ≡ false) × Nodup xs
 -- all vertices of σ are vertices of e
 abbrev pub Sub : List ℕ → List ℕ → Type 0
 Sub σ e = (x : ℕ) → mem x σ ≡ true → mem x e ≡ true
-
--- four different vertices below n
-pub record IsElement (n : ℕ) (e : List ℕ) : Type 0 where
-  pub four : length e ≡ 4
-  pub distinct : Nodup e
-  pub below : (x : ℕ) → mem x e ≡ true → x < n
-
--- each element has four different vertices, and no two have the same
-abbrev pub Proper : ℕ → List (List ℕ) → Type 0
-Proper n [] = Unit {0}
-Proper n (e ∷ es) = IsElement n e × ((f : List ℕ) → List·Memᴰ f es → Sub e f → Sub f e → ⊥) × Proper n es
-
--- two lists of elements with the same complex, as where one is the other in another order, and the vertices of its elements too
-abbrev pub SameComplex : List (List ℕ) → List (List ℕ) → Type 0
-SameComplex es fs = ((e : List ℕ) → List·Memᴰ e es → within e fs ≡ true) × ((f : List ℕ) → List·Memᴰ f fs → within f es ≡ true)
-
--- a list of sets of k vertices below n, none of which is there twice
-abbrev pub Listed : ℕ → ℕ → List (List ℕ) → Type 0
-Listed k n [] = Unit {0}
-Listed k n (σ ∷ ps) = (length σ ≡ k) × Nodup σ × ((x : ℕ) → mem x σ ≡ true → x < n) × (within σ ps ≡ false) × Listed k n ps

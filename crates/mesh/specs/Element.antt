@@ -8,6 +8,7 @@ use lib.ListN.{getD, drop}
 use Rattle.mesh.specs.declared.element.Tet.{Tet}
 use Rattle.mesh.specs.declared.element.Triple.{Triple}
 use Rattle.mesh.specs.declared.element.Pair.{Pair}
+use Rattle.mesh.specs.Complex.{sub}
 
 abbrev pub pair : ℕ → ℕ → Pair
 pair a b = record { a = a; b = b }
@@ -62,3 +63,11 @@ cornersOf f = f .a ∷ f .b ∷ f .c ∷ []
 -- the same two numbers in the same places
 abbrev pub samePair : Pair → Pair → Bool
 samePair e f = eqb (e .a) (f .a) && eqb (e .b) (f .b)
+
+-- e no later than f by their numbers
+abbrev pub lePair : Pair → Pair → Bool
+lePair e f = cond (ltb (e .a) (f .a)) true (cond (ltb (f .a) (e .a)) false (leb (e .b) (f .b)))
+
+-- has the element all of these vertices
+abbrev pub hasAll : List ℕ → Tet → Bool
+hasAll σ t = sub σ (verticesOf t)

@@ -1,18 +1,23 @@
 -- The feature tests of an edge (`feature_link_ok` of repair.rs), on values: "no new labelled curve edge, no lost curve edge except the
 -- collapsed one, and the 1D link condition on each rim". A labelled edge has two bits x < y that the strata of both its ends have, and
 -- its ends u ≤ v. Definitions only.
-use Prim.Native.Nat.{ℕ, zero, suc, _+_, _/_, _%_, min, max}
-use mathlib.Core.Bool.{Bool, true, false, not, cond, _&&_, _||_}
+use Prim.Native.Nat.{ℕ, zero, suc, _+_, _/_, _%_, min, max, _*_, _-_}
+use mathlib.Core.Bool.{Bool, false, not, cond, _&&_, _||_}
 use mathlib.Core.List.{List, [], _∷_, _++_, map}
-use lib.Dec.{eqb}
+use lib.Dec.{eqb, leb}
+use lib.ListN.{getD, length, take}
+use Rattle.geometry.specs.declared.point.Point.{Point}
+use Rattle.geometry.specs.declared.bounds.Bounds.{Bounds}
+use Rattle.geometry.specs.Bounds.{stratum}
 use Rattle.mesh.specs.declared.element.Tet.{Tet}
 use Rattle.mesh.specs.declared.element.Triple.{Triple}
-use Rattle.mesh.specs.Complex.{mem, keep}
-use Rattle.mesh.specs.Moves.{onto}
-use Rattle.mesh.specs.Tests.{every}
+use Rattle.mesh.specs.Complex.{mem, keep, sub}
+use Rattle.mesh.specs.Tests.{every, nodup}
 use Rattle.mesh.specs.Sets.{sameSet}
-use Rattle.mesh.specs.Element.{triple}
+use Rattle.mesh.specs.Element.{triple, tets, verticesOf}
 use Rattle.mesh.specs.Link.{interiorOk, boundaryAbout, boundaryOk}
+use Rattle.mesh.specs.Words.{pointAt, zeroWords}
+use Rattle.mesh.specs.Manifold.{Tested}
 
 pub record Label : Type 0 where
   pub x : ℕ
@@ -64,6 +69,10 @@ module _ (stratum : ℕ → ℕ) where
 abbrev pub threeApart : Triple → Bool
 threeApart f = not (eqb (f .a) (f .b)) && (not (eqb (f .b) (f .c)) && not (eqb (f .a) (f .c)))
 
+-- b in the place of a
+abbrev pub onto : ℕ → ℕ → ℕ → ℕ
+onto a b x = cond (eqb x a) b x
+
 -- the faces after a went into b, but those with fewer than three vertices left
 abbrev pub mapped : ℕ → ℕ → List Triple → List Triple
 mapped a b fs = keep threeApart (map (λ f. triple (onto a b (f .a)) (onto a b (f .b)) (onto a b (f .c))) fs)
@@ -97,3 +106,20 @@ featureOk stratum a b fs = edgesOk stratum a b fs && neighboursOk stratum a b fs
 -- `link_ok`: its tests in the Rust's order
 unfoldable pub linkOk : (ℕ → ℕ) → ℕ → ℕ → List Tet → Bool
 linkOk stratum a b ts = interiorOk a b ts && (boundaryOk a b ts && featureOk stratum a b (boundaryAbout a b ts))
+
+-- ---- within one area
+
+-- the stratum of a vertex
+abbrev pub stratumOf : List ℕ → List Point → Bounds → ℕ → ℕ
+stratumOf masks ps bounds v = stratum (getD masks v 0) (pointAt ps v) bounds
+
+-- "16,384 elements", 88 words an element, and four different vertices in each element
+unfoldable pub linkFits : ℕ → List ℕ → Bool
+linkFits n s = leb n 16384 && (leb (88 * n) (length s) && every (λ t. nodup (verticesOf t)) (tets n s))
+
+-- whether a's bits are b's, and the edge passes `link_ok`, with zeros behind the elements; no, and the area as it was, where it does not fit
+unfoldable pub linkOkIn : (ℕ → ℕ) → ℕ → ℕ → ℕ → List ℕ → Tested
+linkOkIn stratum a b n s =
+    cond (linkFits n s)
+    (record { answer = sub (bitsOf (stratum a)) (bitsOf (stratum b)) && linkOk stratum a b (tets n s); area = take (4 * n) s ++ zeroWords (length s - 4 * n) })
+    (record { answer = false; area = s })

@@ -18,24 +18,12 @@ use Rattle.mesh.specs.declared.boundary.Outcome.the-variants.{Surface, R
 use Rattle.mesh.specs.declared.intake.Sizes.{Sizes}
 use Rattle.mesh.specs.declared.intake.Settings.{Settings}
 use Rattle.mesh.specs.declared.intake.Lengths.{Lengths}
-use Rattle.mesh.specs.Sort.{sort, ordered}
-use Rattle.mesh.specs.Rows.{eqRow}
 use Rattle.mesh.specs.Complex.{sub}
 use Rattle.mesh.specs.Measure.{measure}
 use Rattle.mesh.specs.Tests.{every, nodup, under}
-use Rattle.mesh.specs.Words.{wordAt, floatAt, pointsOf}
-use Rattle.mesh.specs.Element.{tet, tets, verticesOf}
+use Rattle.mesh.specs.Words.{pointsOf}
+use Rattle.mesh.specs.Element.{tets, verticesOf}
 use Rattle.mesh.specs.Boundary.{boundaryNumber}
-
--- ---- elements and points in their slices
-
--- the element e of a list of words, four words each; a word past the end counts as 0
-unfoldable pub tetAt : List ℕ → ℕ → Tet
-tetAt s e = tet (wordAt s (4 * e)) (wordAt s (4 * e + 1)) (wordAt s (4 * e + 2)) (wordAt s (4 * e + 3))
-
--- the point of the vertex v in a list of floats, three floats each; a float past the end counts as +0.0
-unfoldable pub pointIn : List Float → ℕ → Point
-pointIn s v = record { x = floatAt s (3 * v); y = floatAt s (3 * v + 1); z = floatAt s (3 * v + 2) }
 
 -- ---- 10
 
@@ -92,10 +80,6 @@ optionsIn o =
 abbrev pub fieldsIn : ℕ → List Field → Bool
 fieldsIn n fields = leb n 8 && every sizedField (take n fields)
 
--- p below q in each direction
-abbrev pub pointBelow : Point → Point → Bool
-pointBelow p q = lt (p .x) (q .x) && (lt (p .y) (q .y) && lt (p .z) (q .z))
-
 -- ---- 12
 
 -- lo to hi per direction
@@ -118,14 +102,6 @@ sameVertices t u = sub (verticesOf t) (verticesOf u) && sub (verticesOf u) (vert
 unfoldable pub allDifferent : List Tet → Bool
 allDifferent [] = true
 allDifferent (t ∷ ts) = every (λ u. not (sameVertices t u)) ts && allDifferent ts
-
--- the vertices of an element in rising order
-unfoldable pub vertexRow : Tet → List ℕ
-vertexRow t = sort leb (verticesOf t)
-
--- no row equals the next: what 14 comes to for the sorted rows of well numbered elements
-unfoldable pub noneTwice : List (List ℕ) → Bool
-noneTwice rs = ordered (λ r q. not (eqRow r q)) rs
 
 -- determinant above 0
 abbrev pub upright : List Point → Tet → Bool
@@ -154,28 +130,7 @@ intake g =
     (cond (not (every (upright (g .points)) (g .elements))) 15
     (boundaryNumber (g .elements)))))))
 
--- ---- by parts
-
--- the table's rows 10 to 15, and 0 where none applies
-unfoldable pub intakeNumbers : Given → ℕ
-intakeNumbers g =
-    cond (tooMany (g .sizes) || tooShort (g .sizes) (g .lengths)) 10
-    (cond (not (optionsIn (g .options) && fieldsIn (g .count) (g .fields))) 11
-    (cond (not (every sizedPoint (g .points) && every (inBox (g .options .bounds)) (g .parameters))) 12
-    (cond (not (every (wellNumbered (g .sizes .vertices)) (g .elements))) 13
-    (cond (not (allDifferent (g .elements))) 14
-    (cond (not (every (upright (g .points)) (g .elements))) 15 0)))))
-
--- 10 and 11, by numbers alone
-unfoldable pub settingsNumber : Sizes → Lengths → Options → ℕ → List Field → ℕ
-settingsNumber s l o count fields = cond (tooMany s || tooShort s l) 10 (cond (not (optionsIn o && fieldsIn count fields)) 11 0)
-
--- 12 to 15, by n vertices and the elements
-unfoldable pub meshNumber : ℕ → Bounds → List Point → List Point → List Tet → ℕ
-meshNumber n b parameters points elements =
-    cond (not (every sizedPoint points && every (inBox b) parameters)) 12
-    (cond (not (every (wellNumbered n) elements)) 13
-    (cond (not (allDifferent elements)) 14 (cond (not (every (upright points) elements)) 15 0)))
+-- ---- answers, and what lent slices give
 
 -- the number of a refusal, and 0 for a surface
 abbrev pub refusalOf : Outcome → ℕ

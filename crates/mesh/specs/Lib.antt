@@ -1,29 +1,17 @@
--- The definitions that the contracts cite, a file for each subject.
+-- Definitions, a file for each subject. Those of the files here are to be believed: what the papers say, which public contracts cite.
+-- `inside` has those for contracts of private functions and for proofs.
 pub mod Words
 pub mod Sort
-pub mod Rows
 pub mod Element
 pub mod Complex
 pub mod Measure
-pub mod Moves
 pub mod Tests
 pub mod Sets
 pub mod Boundary
 pub mod Surface
 pub mod Link
 pub mod Feature
-pub mod FeatureByMasks
 pub mod Manifold
-pub mod Faces
 pub mod Group
 pub mod Intake
-pub mod Star
-pub mod Euler
-pub mod LinkRows
-pub mod LinkTable
-pub mod List
-pub mod About
-pub mod Short
-pub mod Shared
-pub mod With
-pub mod Marks
+pub mod inside

@@ -1,7 +1,7 @@
 -- Words and floats in lent slices. A slice is the list of its elements: a word is a number below 2^32, a float a value of
 -- `lib.Ieee`. Reads past the end give zero, so that every function of the crate is total. Assumes nothing.
 use mathlib.Core.Bool.{Bool, cond, _&&_}
-use mathlib.Core.List.{List, [], _∷_}
+use mathlib.Core.List.{List, [], _∷_, _++_}
 use Prim.Native.Nat.{ℕ, zero, suc, _+_}
 use lib.Dec.{leb}
 use lib.Ieee.{Float}
@@ -46,3 +46,10 @@ pointAt ps v = getD ps v zeroPoint
 unfoldable pub pointsOf : ℕ → List Float → List Point
 pointsOf zero s = []
 pointsOf (suc n) s = record { x = floatAt s 0; y = floatAt s 1; z = floatAt s 2 } ∷ pointsOf n (drop 3 s)
+
+-- ---- rows
+
+-- the words of the rows
+unfoldable pub flat : List (List ℕ) → List ℕ
+flat [] = []
+flat (r ∷ rs) = r ++ flat rs

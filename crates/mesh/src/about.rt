@@ -1,15 +1,15 @@
 // The live elements about several vertices, the elements of listed slots, and all live elements: more of what the index of star.rt
 // finds, written into the same slice's area.
 use crate::element::Tet;
-use crate::manifold::put_four;
+use crate::rows::put_four;
 use crate::star::GONE;
 use crate::star::Index;
 use crate::star::chain_length;
 use crate::star::is_laid;
 use crate::star::make_distinct;
 use crate::star::put_slots;
-use crate::star::wide;
 use crate::star::word_in;
+use crate::words::wide;
 use crate::words::word;
 ghost use mathlib.Core.Path.{_≡_};
 ghost use mathlib.Core.Logic.{_⊎_};
@@ -19,8 +19,8 @@ ghost use Prim.Native.Nat.{_+_, _*_, _≤_, _<_};
 ghost use lib.Dec.{leb, ltb};
 ghost use lib.ListN.{length};
 ghost use Rattle.mesh.specs.Complex.{keep};
-ghost use Rattle.mesh.specs.Star.{written};
-ghost use Rattle.mesh.specs.About.{members, slotsOf, aboutRoom, aboutList, aboutIn, slotAt, wordsOf, spaceFor, elementsIn, live, liveRoom, liveList, liveIn};
+ghost use Rattle.mesh.specs.inside.Star.{written};
+ghost use Rattle.mesh.specs.inside.About.{members, slotsOf, aboutRoom, aboutList, aboutIn, slotAt, wordsOf, spaceFor, elementsIn, live, liveRoom, liveList, liveIn};
 
 // Whether p lies outside the places from a up to m.
 fn is_clear(a: usize, m: usize, p: usize) -> bool

@@ -3,21 +3,20 @@
 // An area for n elements has 36 n words: the elements, 4 n words; the face rows, 4 n rows of 4 words; as many words of scratch. A face
 // row is a face's key and its number, which is 4 e + k for the face k of the element e. The single faces are gathered as rows of 3
 // words over the face rows that are read already.
-use crate::element::Triple;
 use crate::element::face_parity;
 use crate::faces::face_at;
 use crate::faces::sorted_faces;
 use crate::rows::eq_rows;
+use crate::rows::put_triple;
 use crate::rows::sort_rows;
 use crate::words::clear;
 use crate::words::copy_over;
 ghost use mathlib.Core.Path.{_≡_};
 ghost use Prim.Native.Nat.{_+_, _*_, _≤_};
 ghost use lib.ListN.{length, drop};
-ghost use lib.Seq.{paste};
-ghost use Rattle.mesh.specs.Element.{cornersOf};
-ghost use Rattle.mesh.specs.Rows.{rows};
-ghost use Rattle.mesh.specs.Surface.{areaFits, callFits, Filled, boundaryIn, Call, boundaryCall, kindAt, FaceArea, Gathered};
+ghost use Rattle.mesh.specs.inside.Rows.{rows};
+ghost use Rattle.mesh.specs.Surface.{callFits, Call, boundaryCall};
+ghost use Rattle.mesh.specs.inside.Surface.{areaFits, Filled, boundaryIn, kindAt, FaceArea, Gathered};
 
 // How many surface triples, or the number of the refusal.
 pub enum Outcome {
@@ -49,16 +48,6 @@ fn call_fits(n: usize, elements: usize, surface: usize, work: usize) -> bool
         return false;
     }
     36 * n <= work
-}
-
-// Writes a triple at p.
-fn put_triple(area: &mut [u32], p: usize, f: Triple)
-    requires { ⌜ p + 3 ≤ length (now area) ⌝ }
-    ensures { λ _. ⌜ now (area .exit) ≡ paste (now (area .entry)) p (cornersOf f) 3 ⌝ }
-{
-    area[p] = f.a;
-    area[p + 1] = f.b;
-    area[p + 2] = f.c;
 }
 
 // The run of equal keys that begins at p, where `left` rows are left: 0 a single face, 1 two of opposite parity, 17 two of equal

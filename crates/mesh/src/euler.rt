@@ -5,23 +5,22 @@
 // each with its vertices in rising order.
 use crate::element::Pair;
 use crate::element::Tet;
-use crate::element::Triple;
 use crate::element::face_key;
 use crate::element::tet_face;
-use crate::manifold::clear_from;
-use crate::manifold::put_edge;
-use crate::manifold::sort_from;
+use crate::rows::put_edge;
+use crate::rows::put_triple;
+use crate::rows::sort_from;
 use crate::rows::unique_rows;
 use crate::vertex::tet_at;
+use crate::words::clear_from;
 use crate::words::copy_words;
 ghost use mathlib.Core.Path.{_≡_};
 ghost use Prim.Native.Nat.{_+_, _*_, _≤_, _<_};
 ghost use lib.ListN.{length, drop};
-ghost use lib.Seq.{paste};
-ghost use Rattle.mesh.specs.Rows.{rows};
-ghost use Rattle.mesh.specs.Element.{cornersOf, tets};
-ghost use Rattle.mesh.specs.Manifold.{filled, KeptBelow};
-ghost use Rattle.mesh.specs.Euler.{endsAt, different, countsOf, countFits, Counted, countedIn, edgeRowAt, triangleRowAt};
+ghost use Rattle.mesh.specs.inside.Rows.{rows};
+ghost use Rattle.mesh.specs.Element.{tets};
+ghost use Rattle.mesh.specs.inside.Manifold.{filled, KeptBelow};
+ghost use Rattle.mesh.specs.inside.Euler.{endsAt, different, countsOf, countFits, Counted, countedIn, edgeRowAt, triangleRowAt};
 
 // How many simplices of each size.
 pub struct Counts {
@@ -63,16 +62,6 @@ pub(crate) fn tet_ends(t: Tet, k: usize) -> Pair
     Pair { a: t.c, b: t.d }
 }
 
-// Writes three words at p.
-fn put_triangle(area: &mut [u32], p: usize, f: Triple)
-    requires { ⌜ p + 3 ≤ length (now area) ⌝ }
-    ensures { λ _. ⌜ now (area .exit) ≡ paste (now (area .entry)) p (cornersOf f) 3 ⌝ }
-{
-    area[p] = f.a;
-    area[p + 1] = f.b;
-    area[p + 2] = f.c;
-}
-
 // Writes the rows of the edges of n elements behind them.
 pub(crate) fn list_edges(area: &mut [u32], n: usize)
     requires { ⌜ (n ≤ 65536) × (28 * n ≤ length (now area)) ⌝ }
@@ -99,7 +88,7 @@ pub(crate) fn list_triangles(area: &mut [u32], n: usize)
         let t = tet_at(area, j / 4);
         let k = (j % 4) as u32;
         let f = face_key(tet_face(t, k));
-        put_triangle(area, m + 3 * j, f);
+        put_triple(area, m + 3 * j, f);
         j += 1;
     }
 }

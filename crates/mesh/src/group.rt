@@ -5,30 +5,18 @@
 // scratch, which are left 0.
 use crate::rows::sort_rows;
 use crate::vertex::point_at;
+use crate::words::high_half;
+use crate::words::low_half;
 use geometry::bounds::Options;
 use geometry::bounds::Ranks;
 use geometry::bounds::rank;
 ghost use mathlib.Core.Path.{_≡_};
-ghost use Prim.Native.Nat.{_+_, _*_, _/_, _%_, _^_, _≤_};
+ghost use Prim.Native.Nat.{_+_, _*_, _≤_};
 ghost use lib.ListN.{length};
 ghost use lib.Seq.{paste};
 ghost use Rattle.mesh.specs.Words.{pointsOf};
-ghost use Rattle.mesh.specs.Manifold.{filled};
-ghost use Rattle.mesh.specs.Group.{groupRow, groupFits, groupedArea, groupRowAt};
-
-// The high word of x.
-pub(crate) fn high_half(x: u64) -> u32
-    ensures { λ r. ⌜ r ≡ x / 2 ^ 32 ⌝ }
-{
-    (x / 0x1_0000_0000) as u32
-}
-
-// The low word of x.
-pub(crate) fn low_half(x: u64) -> u32
-    ensures { λ r. ⌜ r ≡ x % 2 ^ 32 ⌝ }
-{
-    (x % 0x1_0000_0000) as u32
-}
+ghost use Rattle.mesh.specs.inside.Manifold.{filled};
+ghost use Rattle.mesh.specs.inside.Group.{groupRow, groupFits, groupedArea, groupRowAt};
 
 // Whether n is at most 65,536 and an area for n vertices fits into m words.
 fn group_fits(n: usize, m: usize) -> bool

@@ -4,6 +4,7 @@ use crate::boundary::boundary_in;
 use crate::element::Pair;
 use crate::element::Tet;
 use crate::element::Triple;
+use crate::element::four_different;
 use crate::measure::is_above;
 use crate::rows::eq_rows;
 use crate::rows::sort_rows;
@@ -25,11 +26,12 @@ ghost use lib.ListN.{length, drop};
 ghost use lib.Seq.{paste};
 ghost use Rattle.mesh.specs.Boundary.{boundaryNumber};
 ghost use Rattle.mesh.specs.Element.{tets, cornersOf, verticesOf};
-ghost use Rattle.mesh.specs.Intake.{tooMany, tooShort, sized, sizedPoint, sizedField, pointBelow, boundsIn, cellsIn, optionsIn, fieldsIn, inBox, wellNumbered, vertexRow, noneTwice, upright, settingsNumber, meshNumber, givenOf, intakeNumbers, intake};
-ghost use Rattle.mesh.specs.Rows.{rows, flat, leRow};
+ghost use Rattle.mesh.specs.Intake.{tooMany, tooShort, sized, sizedPoint, sizedField, boundsIn, cellsIn, optionsIn, fieldsIn, inBox, wellNumbered, upright, givenOf, intake};
+ghost use Rattle.mesh.specs.inside.Intake.{pointBelow, vertexRow, noneTwice, settingsNumber, meshNumber, intakeNumbers};
+ghost use Rattle.mesh.specs.inside.Rows.{rows, leRow};
+ghost use Rattle.mesh.specs.Words.{flat, zeroWords, zeroFloats, pointsOf};
 ghost use Rattle.mesh.specs.Sort.{insert, sort};
-ghost use Rattle.mesh.specs.Tests.{every, nodup, under};
-ghost use Rattle.mesh.specs.Words.{zeroWords, zeroFloats, pointsOf};
+ghost use Rattle.mesh.specs.Tests.{every, under};
 
 // How many vertices, elements and surface triples a mesh has.
 pub struct Sizes {
@@ -311,28 +313,6 @@ fn under_all(t: Tet, n: usize) -> bool
         return false;
     }
     (t.d as usize) < n
-}
-
-// Whether the four vertices of an element are different.
-pub(crate) fn four_different(t: Tet) -> bool
-    ensures { λ r. ⌜ r ≡ nodup (verticesOf t) ⌝ }
-{
-    if t.a == t.b {
-        return false;
-    }
-    if t.a == t.c {
-        return false;
-    }
-    if t.a == t.d {
-        return false;
-    }
-    if t.b == t.c {
-        return false;
-    }
-    if t.b == t.d {
-        return false;
-    }
-    t.c != t.d
 }
 
 // Whether an element has four different vertices below n.

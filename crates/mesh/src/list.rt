@@ -5,23 +5,23 @@
 use crate::element::Tet;
 use crate::euler::list_edges;
 use crate::euler::list_triangles;
-use crate::manifold::clear_from;
-use crate::manifold::put_four;
-use crate::manifold::sort_from;
 use crate::measure::is_bad_element;
+use crate::rows::put_four;
+use crate::rows::sort_from;
 use crate::rows::unique_rows;
 use crate::vertex::tet_at;
+use crate::words::clear_from;
 ghost use mathlib.Core.Path.{_≡_};
 ghost use mathlib.Core.List.{_++_, map};
 ghost use Prim.Native.Nat.{_+_, _-_, _*_, _≤_, _<_};
 ghost use lib.ListN.{length, take, drop};
-ghost use Rattle.mesh.specs.Words.{pointsOf, zeroWords};
-ghost use Rattle.mesh.specs.Rows.{rows, flat, uniqueRows, uniqueArea};
+ghost use Rattle.mesh.specs.Words.{pointsOf, zeroWords, flat};
+ghost use Rattle.mesh.specs.inside.Rows.{rows, uniqueRows, uniqueArea};
 ghost use Rattle.mesh.specs.Complex.{keep};
 ghost use Rattle.mesh.specs.Element.{tets, verticesOf};
-ghost use Rattle.mesh.specs.Manifold.{filled};
-ghost use Rattle.mesh.specs.Euler.{edgeRowAt, triangleRowAt};
-ghost use Rattle.mesh.specs.List.{badIn, setOf, badEdges, badFaces, listFits, Listing, listedIn, stacked};
+ghost use Rattle.mesh.specs.inside.Manifold.{filled};
+ghost use Rattle.mesh.specs.inside.Euler.{edgeRowAt, triangleRowAt};
+ghost use Rattle.mesh.specs.inside.List.{badIn, setOf, badEdges, badFaces, listFits, Listing, listedIn, stacked};
 
 // How many bad elements, and how many rows.
 pub struct Listed {

@@ -8,10 +8,10 @@ use crate::element::Triple;
 use crate::element::face_key;
 use crate::element::tet_face;
 use crate::list::is_bad_tet;
-use crate::manifold::clear_from;
-use crate::manifold::run_from;
-use crate::manifold::sort_from;
+use crate::rows::run_from;
+use crate::rows::sort_from;
 use crate::vertex::tet_at;
+use crate::words::clear_from;
 use crate::words::copy_words;
 use crate::words::word;
 ghost use mathlib.Core.Path.{_≡_};
@@ -22,11 +22,11 @@ ghost use lib.Dec.{eqb};
 ghost use lib.ListN.{length, drop};
 ghost use lib.Seq.{paste};
 ghost use Rattle.mesh.specs.Words.{wordAt, pointsOf};
-ghost use Rattle.mesh.specs.Rows.{rows};
+ghost use Rattle.mesh.specs.inside.Rows.{rows};
 ghost use Rattle.mesh.specs.Element.{facesOf, tets};
-ghost use Rattle.mesh.specs.Group.{runs, sameFirst};
-ghost use Rattle.mesh.specs.List.{Pushed};
-ghost use Rattle.mesh.specs.Shared.{sharedFits, Shares, sharedIn, ownedRow, badMark, ownedFrom, runRow, runsRows};
+ghost use Rattle.mesh.specs.inside.Group.{runs, sameFirst};
+ghost use Rattle.mesh.specs.inside.List.{Pushed};
+ghost use Rattle.mesh.specs.inside.Shared.{sharedFits, Shares, sharedIn, ownedRow, badMark, ownedFrom, runRow, runsRows};
 
 // Whether n is at most 65,536 and an area for n elements fits into m words.
 fn shared_fits(n: usize, m: usize) -> bool

@@ -5,13 +5,13 @@
 use crate::element::Pair;
 use crate::element::Tet;
 use crate::euler::tet_ends;
-use crate::group::high_half;
-use crate::group::low_half;
 use crate::list::is_bad_tet;
 use crate::list::set_from;
-use crate::manifold::put_four;
 use crate::measure::edge_length;
+use crate::rows::put_four;
 use crate::vertex::tet_at;
+use crate::words::high_half;
+use crate::words::low_half;
 use geometry::word::order_bits;
 ghost use mathlib.Core.Path.{_≡_};
 ghost use mathlib.Core.List.{[], _∷_};
@@ -20,8 +20,8 @@ ghost use lib.ListN.{length};
 ghost use Rattle.mesh.specs.Words.{pointsOf};
 ghost use Rattle.mesh.specs.Complex.{keep};
 ghost use Rattle.mesh.specs.Element.{pair, tets};
-ghost use Rattle.mesh.specs.List.{badIn, edgesOf, allEdges, Pushed};
-ghost use Rattle.mesh.specs.Short.{shortFits, Shorts, shortIn, shortRows};
+ghost use Rattle.mesh.specs.inside.List.{badIn, edgesOf, allEdges, Pushed};
+ghost use Rattle.mesh.specs.inside.Short.{shortFits, Shorts, shortIn, shortRows};
 
 // Whether n is at most 65,536 and an area for n slots fits into m words.
 fn short_fits(n: usize, m: usize) -> bool

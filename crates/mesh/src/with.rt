@@ -10,8 +10,8 @@ ghost use mathlib.Core.List.{[], _∷_};
 ghost use Prim.Native.Nat.{_/_, _<_};
 ghost use lib.ListN.{length};
 ghost use Rattle.mesh.specs.Complex.{mem};
-ghost use Rattle.mesh.specs.Star.{cornersAt, lengthOf, Free, written};
-ghost use Rattle.mesh.specs.With.{rarer, entryHas, withIf, withMet, anyWith, withList, withIn};
+ghost use Rattle.mesh.specs.inside.Star.{cornersAt, lengthOf, Free, written};
+ghost use Rattle.mesh.specs.inside.With.{rarer, entryHas, withIf, withMet, anyWith, withList, withIn};
 
 // The one of v and w whose chain has fewer entries, v where both have as many.
 fn rarer(s: &[u32], x: Index, v: u32, w: u32) -> u32

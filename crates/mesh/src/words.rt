@@ -1,8 +1,9 @@
-// Total accessors: a read past the end is 0, a write past the end does nothing.
+// Total accessors: a read past the end is 0, a write past the end does nothing. Behind them, a word as a size and the words of a u64.
 ghost use mathlib.Core.Path.{_≡_};
-ghost use Prim.Native.Nat.{_+_, _≤_, _<_};
-ghost use lib.ListN.{length, drop, set};
+ghost use Prim.Native.Nat.{_+_, _≤_, _<_, _-_, _/_, _%_, _^_};
+ghost use lib.ListN.{length, drop, set, take};
 ghost use lib.Seq.{paste};
+ghost use mathlib.Core.List.{_++_};
 ghost use Rattle.mesh.specs.Words.{wordAt, floatAt, zeroWords, zeroFloats, inside, copied};
 
 // The word at i, and 0 past the end.
@@ -126,4 +127,33 @@ pub(crate) fn copy_over(to: &mut [u32], from: &[u32], n: usize)
         to[p] = from[p];
         p += 1;
     }
+}
+
+// All words from a on 0.
+pub(crate) fn clear_from(area: &mut [u32], a: usize)
+    requires { ⌜ a ≤ length (now area) ⌝ }
+    ensures { λ _. ⌜ now (area .exit) ≡ take a (now (area .entry)) ++ zeroWords (length (now (area .entry)) - a) ⌝ }
+{
+    clear(&mut area[a..]);
+}
+
+// A word as a size.
+pub fn wide(x: u32) -> usize
+    ensures { λ r. ⌜ (r ≡ x) × (r < 4294967296) ⌝ }
+{
+    x as usize
+}
+
+// The high word of x.
+pub fn high_half(x: u64) -> u32
+    ensures { λ r. ⌜ r ≡ x / 2 ^ 32 ⌝ }
+{
+    (x / 0x1_0000_0000) as u32
+}
+
+// The low word of x.
+pub fn low_half(x: u64) -> u32
+    ensures { λ r. ⌜ r ≡ x % 2 ^ 32 ⌝ }
+{
+    (x % 0x1_0000_0000) as u32
 }

@@ -13,20 +13,16 @@ use Rattle.mesh.specs.declared.element.Pair.{Pair}
 use Rattle.mesh.specs.declared.element.Triple.{Triple}
 use Rattle.mesh.specs.declared.element.Tet.{Tet}
 use Rattle.mesh.specs.Sort.{sort, unique}
-use Rattle.mesh.specs.Complex.{sub, keep}
-use Rattle.mesh.specs.Tests.{every}
+use Rattle.mesh.specs.Complex.{keep}
+use Rattle.mesh.specs.Tests.{every, any}
 use Rattle.mesh.specs.Link.{without}
-use Rattle.mesh.specs.Element.{samePair, tet, verticesOf, cornersOf, keyOf}
+use Rattle.mesh.specs.Element.{samePair, tet, verticesOf, cornersOf, keyOf, lePair, hasAll}
 use Rattle.mesh.specs.Boundary.{sameTriple, leTriple, allFaces, boundaryNumber, boundaryOf}
 use Rattle.mesh.specs.Group.{numbers}
 use Rattle.mesh.specs.Measure.{Measure, measure, isBad, badCount, lowestOf}
-use Rattle.repair.specs.Mesh.{Mesh, Result, made, refused, any, allEdges, lePair}
+use Rattle.repair.specs.Mesh.{Mesh, Result, made, refused, allEdges}
 
 -- ---- slots
-
--- has the element all of these vertices
-abbrev pub hasAll : List ℕ → Tet → Bool
-hasAll σ t = sub σ (verticesOf t)
 
 -- the same of a slot, where an element is in it
 abbrev pub slotHas : List ℕ → Option Tet → Bool

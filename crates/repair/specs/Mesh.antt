@@ -1,9 +1,8 @@
 -- A mesh on values, and its elements and edges (document 01, "Vertex", "Element and surface"). A vertex is a number; its
 -- parameters, point and mask are looked up, and a number past the end has the point 0 0 0 and the mask 0. Definitions only.
 use Prim.Native.Nat.{ℕ, min, max}
-use mathlib.Core.Bool.{Bool, true, false, cond, _||_}
+use mathlib.Core.Bool.{Bool}
 use mathlib.Core.List.{List, [], _∷_, _++_}
-use lib.Dec.{ltb, leb}
 use Rattle.geometry.specs.declared.point.Point.{Point}
 use Rattle.mesh.specs.declared.element.Pair.{Pair}
 use Rattle.mesh.specs.declared.element.Triple.{Triple}
@@ -25,11 +24,6 @@ pub data Result : Type 0 where
 
 -- ---- elements
 
--- does one of them pass the test
-abbrev pub any {ℓ} : {A : Type ℓ} → (A → Bool) → List A → Bool
-any p [] = false
-any p (x ∷ xs) = p x || any p xs
-
 -- is v a vertex of the element
 abbrev pub has : ℕ → Tet → Bool
 has v t = mem v (verticesOf t)
@@ -47,7 +41,3 @@ edgesOf t =
 unfoldable pub allEdges : List Tet → List Pair
 allEdges [] = []
 allEdges (t ∷ ts) = edgesOf t ++ allEdges ts
-
--- e no later than f by their numbers
-abbrev pub lePair : Pair → Pair → Bool
-lePair e f = cond (ltb (e .a) (f .a)) true (cond (ltb (f .a) (e .a)) false (leb (e .b) (f .b)))

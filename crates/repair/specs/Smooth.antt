@@ -19,13 +19,13 @@ use Rattle.geometry.specs.Field.{value}
 use Rattle.mesh.specs.declared.element.Tet.{Tet}
 use Rattle.mesh.specs.Words.{pointAt}
 use Rattle.mesh.specs.Complex.{keep}
-use Rattle.mesh.specs.Tests.{every}
+use Rattle.mesh.specs.Tests.{every, any}
 use Rattle.mesh.specs.Group.{numbers, groups}
 use Rattle.mesh.specs.Intake.{inBox}
 use Rattle.mesh.specs.Measure.{measure, lowestOf}
 use Rattle.repair.specs.declared.project.Projected.{Projected}
 use Rattle.repair.specs.declared.project.Projected.the-variants.{Found, Nothing}
-use Rattle.repair.specs.Mesh.{Mesh, Result, made, any, has}
+use Rattle.repair.specs.Mesh.{Mesh, Result, made, has}
 use Rattle.repair.specs.Project.{project}
 
 -- ---- fields and regions

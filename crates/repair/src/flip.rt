@@ -1,10 +1,22 @@
 // `flip`: two-to-three over shared faces, then three-to-two over edges, then the elements that are left and their boundary.
+mod counts;
+mod find;
+mod finish;
+mod layout;
+mod orient;
+mod prepare;
+mod replace;
+mod slots;
+mod three_to_two;
+mod tries;
+mod two_to_three;
+
 use crate::answer::Answer;
-use crate::flip_begin::begin_flip;
-use crate::flip_end::finish_flip;
-use crate::flip_layout::flip_layout;
-use crate::flip_tries::try_edges;
-use crate::flip_tries::try_faces;
+use crate::flip::finish::finish_flip;
+use crate::flip::layout::flip_layout;
+use crate::flip::prepare::begin_flip;
+use crate::flip::tries::try_edges;
+use crate::flip::tries::try_faces;
 use geometry::field::Field;
 use mesh::about::live_elements;
 use mesh::intake::Settings;
@@ -19,7 +31,7 @@ ghost use lib.ListN.{length};
 ghost use Rattle.mesh.specs.Words.{zeroWords, zeroFloats};
 ghost use Rattle.repair.specs.declared.answer.Answer.{Answer};
 ghost use Rattle.repair.specs.Step.{State, Pass, held, callOf, numberOf, valuesOf, inNumbers, sizesAfter, step};
-ghost use Rattle.repair.specs.FlipFitting.{FlipFitting, flipWhole};
+ghost use Rattle.repair.specs.inside.flip.Fitting.{FlipFitting, flipWhole};
 
 // The pass on a mesh that passed intake.
 fn flip_all(

@@ -1,10 +1,19 @@
 // `improve`: rounds of edge collapses, then the vertices that are left, renumbered.
+mod collapse;
+mod edges;
+mod gain;
+mod pair_test;
+mod partners;
+mod prepare;
+mod renumber;
+mod round;
+
 use crate::answer::Answer;
-use crate::begin::begin;
-use crate::finish::finish_improve;
+use crate::improve::edges::list_edges;
+use crate::improve::prepare::begin;
+use crate::improve::renumber::finish_improve;
+use crate::improve::round::round;
 use crate::layout::layout;
-use crate::pair::list_edges;
-use crate::round::round;
 use geometry::bounds::Options;
 use geometry::bounds::spacing;
 use geometry::field::Field;
@@ -25,9 +34,9 @@ ghost use Rattle.mesh.specs.Measure.{measure};
 ghost use Rattle.repair.specs.declared.answer.Answer.{Answer};
 ghost use Rattle.repair.specs.Mesh.{Mesh};
 ghost use Rattle.repair.specs.Improve as def;
-ghost use Rattle.repair.specs.Layout.{Stands, Reads, Ready};
+ghost use Rattle.repair.specs.inside.Layout.{Stands, Reads, Ready};
 ghost use Rattle.repair.specs.Step.{State, Pass, held, callOf, numberOf, valuesOf, inNumbers, sizesAfter, finish, meshOf, step};
-ghost use Rattle.repair.specs.Fitting.{Fitting};
+ghost use Rattle.repair.specs.inside.improve.Fitting.{Fitting};
 
 // At most o.passes rounds, ended by one that collapses nothing. Gives how many vertices were replaced.
 fn rounds(

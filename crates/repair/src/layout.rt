@@ -12,7 +12,7 @@
 use mesh::star::Index;
 ghost use mathlib.Core.Path.{_≡_};
 ghost use Prim.Native.Nat.{ℕ, _+_, _*_, _≤_};
-ghost use Rattle.repair.specs.Layout.{Room};
+ghost use Rattle.repair.specs.inside.Layout.{Room};
 
 // The layout for nv vertices and n elements, both within document 01's limits.
 pub(crate) fn layout(nv: u32, n: u32) -> Index

@@ -1,36 +1,9 @@
-// The passes `improve`, `smooth` and `flip`, and what they are made of. specs/ has their definitions.
+// The passes `improve`, `smooth` and `flip`, and the projection of `smooth`, each with its parts in a folder of its name. What several
+// use stands beside them. specs/ has their definitions.
 pub mod answer;
-mod begin;
-mod best;
-mod candidate;
-mod finish;
 pub mod flip;
-mod flip_begin;
-mod flip_edge;
-mod flip_end;
-mod flip_face;
-mod flip_find;
-mod flip_layout;
-mod flip_replace;
-mod flip_slots;
-mod flip_tries;
-mod float;
-mod gain;
-mod group_move;
 pub mod improve;
 mod layout;
-mod locked;
-mod map;
-mod matrix;
-mod members;
-mod orient;
-mod pair;
-mod pairs;
 pub mod project;
-mod replace;
-mod round;
-mod row;
+mod quality;
 pub mod smooth;
-mod tally;
-mod trial;
-mod tried;

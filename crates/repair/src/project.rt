@@ -1,18 +1,23 @@
 // `project_candidate`: a candidate moved onto the active fields.
-use crate::float::is_finite_point;
-use crate::locked::Locked;
-use crate::locked::extent;
-use crate::locked::held;
-use crate::locked::locked_at;
-use crate::matrix::displacement;
-use crate::matrix::matrix;
-use crate::matrix::solve;
-use crate::row::Row;
-use crate::row::all_near;
-use crate::row::all_usable;
-use crate::row::all_zero;
-use crate::row::free;
-use crate::row::rows_at;
+mod field_rows;
+mod finite;
+mod locked;
+mod matrix;
+
+use crate::project::field_rows::Row;
+use crate::project::field_rows::all_near;
+use crate::project::field_rows::all_usable;
+use crate::project::field_rows::all_zero;
+use crate::project::field_rows::free;
+use crate::project::field_rows::rows_at;
+use crate::project::finite::is_finite_point;
+use crate::project::locked::Locked;
+use crate::project::locked::extent;
+use crate::project::locked::held;
+use crate::project::locked::locked_at;
+use crate::project::matrix::displacement;
+use crate::project::matrix::matrix;
+use crate::project::matrix::solve;
 use geometry::bounds::Bounds;
 use geometry::field::Field;
 use geometry::point::Point;
@@ -27,7 +32,7 @@ ghost use Rattle.geometry.specs.declared.point.Point.{Point};
 ghost use Rattle.geometry.specs.Float.{_*₆₄_};
 ghost use Rattle.geometry.specs.Literals.{e-12};
 ghost use Rattle.repair.specs.Project.{lockedOf, extent, matrix, solved, onwardFrom, onward, step, steps, project};
-ghost use Rattle.repair.specs.Solve.{locks, rowsOf, stepOf};
+ghost use Rattle.repair.specs.inside.project.Solve.{locks, rowsOf, stepOf};
 
 // The point found, or nothing.
 pub enum Projected {

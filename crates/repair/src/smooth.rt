@@ -1,14 +1,20 @@
 // `smooth`: groups of vertices of equal rank, in rank order, moved to the best of nine candidates. The work is laid out as for `improve`
 // (layout.rt), without flags, pairs and edges, and only its front is used (used_words); the floats are not used.
+mod candidates;
+mod choose;
+mod map;
+mod move_group;
+mod trial_scores;
+
 use crate::answer::Answer;
-use crate::best::Best;
-use crate::best::Start;
-use crate::best::best_candidate;
-use crate::candidate::mean_of;
-use crate::group_move::move_group;
 use crate::layout::layout;
-use crate::trial::Site;
-use crate::trial::lowest_about;
+use crate::smooth::candidates::mean_of;
+use crate::smooth::choose::Best;
+use crate::smooth::choose::Start;
+use crate::smooth::choose::best_candidate;
+use crate::smooth::move_group::move_group;
+use crate::smooth::trial_scores::Site;
+use crate::smooth::trial_scores::lowest_about;
 use geometry::bounds::Options;
 use geometry::bounds::canonical;
 use geometry::field::Field;
@@ -38,7 +44,7 @@ ghost use Rattle.mesh.specs.Group.{groups};
 ghost use Rattle.mesh.specs.Intake.{wellNumbered};
 ghost use Rattle.mesh.specs.Measure.{measure, lowestOf};
 ghost use Rattle.repair.specs.Smooth.{mean, bestFor, smoothGroup, smoothGroups};
-ghost use Rattle.repair.specs.Site.{members, about, stateOf, bestIn, Turned, SameTo, Ready, Slots, Rows, Listed, Sited, Started, usedWords, meshRead, meshFor, Grouped};
+ghost use Rattle.repair.specs.inside.smooth.Site.{members, about, stateOf, bestIn, Turned, SameTo, Ready, Slots, Rows, Listed, Sited, Started, usedWords, meshRead, meshFor, Grouped};
 ghost use Rattle.repair.specs.Step.{State, Pass, held, callOf, regionsOf, numberOf, valuesOf, inNumbers, step};
 
 // The rows of a group, among the sorted ones: the first of them, and how many.

@@ -12,13 +12,13 @@ ghost use mathlib.Core.List.{map};
 ghost use Prim.Native.Nat.{_≤_, _*_};
 ghost use lib.ListN.{length, take};
 ghost use Rattle.mesh.specs.Words.{pointsOf};
-ghost use Rattle.mesh.specs.Complex.{Proper};
+ghost use Rattle.mesh.specs.inside.Complex.{Proper};
 ghost use Rattle.mesh.specs.Element.{tets, verticesOf};
-ghost use Rattle.mesh.specs.Euler.{countsOf};
+ghost use Rattle.mesh.specs.inside.Euler.{countsOf};
 ghost use Rattle.report.specs.Table.{tableText};
 ghost use Rattle.report.specs.Run.{sizesLeft};
 ghost use Rattle.report.specs.Report.{tableOf, printed};
-ghost use Rattle.report.specs.Written.{Written, Roomy, Ready};
+ghost use Rattle.report.specs.inside.Written.{Written, Roomy, Ready};
 
 // How many simplices of each size n elements have.
 fn simplices(elements: &[u32], n: usize, work: &mut [u32]) -> Counts

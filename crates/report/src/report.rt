@@ -30,7 +30,7 @@ ghost use Rattle.repair.specs.Step.{State, held, over};
 ghost use Rattle.report.specs.Format.{mostElements};
 ghost use Rattle.report.specs.Block.{readingNumber, plotIn, read};
 ghost use Rattle.report.specs.Report.{placed, textOf, report};
-ghost use Rattle.report.specs.Written.{Written, PlotRoom};
+ghost use Rattle.report.specs.inside.Written.{Written, PlotRoom};
 
 // The lengths of the passes' buffers: specs/Report.antt says what they are for.
 const MOST_MADE: usize = MOST_ELEMENTS + MOST_ELEMENTS / 2;

@@ -15,7 +15,7 @@ ghost use lib.ListN.{take};
 ghost use Rattle.mesh.specs.Words.{pointsOf};
 ghost use Rattle.mesh.specs.Element.{tets};
 ghost use Rattle.report.specs.Table.{insideCount, lowCount, insideLines, elementLines, tableText};
-ghost use Rattle.report.specs.Written.{Written};
+ghost use Rattle.report.specs.inside.Written.{Written};
 
 // Writes a line for each of n elements.
 pub(crate) fn element_lines(out: &mut [u8], at: usize, elements: &[u32], n: usize) -> usize

@@ -7,7 +7,7 @@ ghost use mathlib.Core.List.{_++_};
 ghost use lib.IntN.{subℕ};
 ghost use lib.ListN.{length, set};
 ghost use Rattle.report.specs.Table.{decimal, signed, space, refusedText, sizesLine, countsLine, stateLine, insideLine, elementLine};
-ghost use Rattle.report.specs.Written.{Written};
+ghost use Rattle.report.specs.inside.Written.{Written};
 
 // Writes a byte at a place.
 fn put(out: &mut [u8], at: usize, b: u8)

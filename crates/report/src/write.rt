@@ -37,7 +37,7 @@ ghost use Rattle.mesh.specs.Words.{zeroWords};
 ghost use Rattle.report.specs.Format.{bytesABlock, firstRecord, vertexSize, verticesABlock, elementSize, elementsABlock, headerSize, fieldPlaces, fieldSize, mostVertices, mostElements};
 ghost use Rattle.report.specs.Bytes.{listed};
 ghost use Rattle.report.specs.Write.{floatWords, pointWords, checkOf, closed, optionsWords, boundsWords, fieldWords, placeWords, headerRecord, headerFront, rowPoint, vertexRecord, elementRecord, recordsFrom, vertexFront, elementFront, fileBlock, blocksOf, roomFor, fileInto, fileSize};
-ghost use Rattle.report.specs.Put.{Put};
+ghost use Rattle.report.specs.inside.Put.{Put};
 
 // Where the next word goes, and the sum of the block's words so far, modulo 2^32.
 struct Cursor {

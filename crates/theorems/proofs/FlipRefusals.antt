@@ -9,7 +9,7 @@ use lib.Ieee.{lt}
 use lib.ListN.{length}
 use Rattle.geometry.specs.Float.{zero64}
 use Rattle.mesh.specs.declared.element.Tet.{Tet}
-use Rattle.mesh.specs.Complex.{Proper}
+use Rattle.mesh.specs.inside.Complex.{Proper}
 use Rattle.mesh.specs.Element.{verticesOf}
 use Rattle.mesh.specs.Boundary.{boundaryNumber, boundaryOf}
 use Rattle.mesh.specs.Intake.{intake}

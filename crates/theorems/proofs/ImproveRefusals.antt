@@ -10,7 +10,7 @@ use Rattle.geometry.specs.declared.bounds.Options.{Options}
 use Rattle.geometry.specs.Bounds.{spacing}
 use Rattle.mesh.specs.declared.element.Pair.{Pair}
 use Rattle.mesh.specs.declared.element.Tet.{Tet}
-use Rattle.mesh.specs.Complex.{Proper}
+use Rattle.mesh.specs.inside.Complex.{Proper}
 use Rattle.mesh.specs.Element.{pair, verticesOf}
 use Rattle.mesh.specs.Boundary.{boundaryNumber}
 use Rattle.mesh.specs.Feature.{linkOk}
@@ -20,7 +20,8 @@ use Rattle.mesh.proofs.Laws.Complex.Sets.{and-fst, and-snd}
 use Rattle.mesh.proofs.Laws.Complex.Steps.{step-keeps}
 use Rattle.mesh.proofs.Laws.Link.Keys.{proper-fours}
 use Rattle.mesh.proofs.Laws.Link.Together.{linkOk-collapsible}
-use Rattle.repair.specs.Mesh.{Mesh, Result, made, refused, any, has}
+use Rattle.repair.specs.Mesh.{Mesh, Result, made, refused, has}
+use Rattle.mesh.specs.Tests.{any}
 use Rattle.repair.specs.Improve as def
 use Rattle.repair.specs.Improve.{stratumOf, stratumRule, imageOf, collapsed, go, rounds, placeOf, renumbered, endNumber}
 use Rattle.repair.specs.Step.{State, meshOf, given, lengthsOf, resultOf, finish, numberOf, step}

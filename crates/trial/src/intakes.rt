@@ -159,9 +159,11 @@ fn number_of(
 ) -> u32 {
     let f = Field::Level(0.5);
     let fields = [f, f, f, f, f, f, f, f];
+    let o = options(t.faults);
+    let z = t.sizes;
     let s = Settings {
-        sizes: t.sizes,
-        options: options(t.faults),
+        sizes: z,
+        options: o,
         count: 0,
     };
     let g = count_words(t.words, work);

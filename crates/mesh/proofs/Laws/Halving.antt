@@ -8,8 +8,8 @@ use native.Mathlib.Omega.{arith}
 use lib.ListN.{length, take, drop}
 use lib.Seq.{take-length, take-take}
 use borrow.Author.Tests.{eq-eqb, ne-eqb, le-leb, lt-leb}
-use Rattle.mesh.specs.Sort.{ordered, halving}
-use Rattle.mesh.specs.Rows.{rows, leRow, fitRows, reaches, firstAtLeast}
+use Rattle.mesh.specs.inside.Sort.{ordered, halving}
+use Rattle.mesh.specs.inside.Rows.{rows, leRow, fitRows, reaches, firstAtLeast}
 use Rattle.mesh.proofs.Laws.Bools.{split, clash, fails}
 use Rattle.mesh.proofs.Laws.Parts.{side}
 use Rattle.mesh.proofs.Laws.Rows.{fit-words, leRow-refl, leRow-trans, leRow-take, rows-at, length-rows}

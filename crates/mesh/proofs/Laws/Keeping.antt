@@ -10,7 +10,8 @@ use native.Mathlib.Omega.{arith}
 use lib.ListN.{length, take, drop, length-append, length-drop, take-append-drop}
 use lib.Seq.{paste, take-paste, drop-paste, length-paste, drop-drop}
 use Rattle.mesh.specs.Sort.{uniqueAfter, unique}
-use Rattle.mesh.specs.Rows.{rows, flat, eqRow, fitRows, uniqueRows, uniqueArea}
+use Rattle.mesh.specs.inside.Rows.{rows, eqRow, fitRows, uniqueRows, uniqueArea}
+use Rattle.mesh.specs.Words.{flat}
 use Rattle.mesh.proofs.Laws.Bools.{split}
 use Rattle.mesh.proofs.Laws.Parts.{paste-part}
 use Rattle.mesh.proofs.Laws.Unique.{length-unique}

@@ -7,7 +7,7 @@ use Prim.Native.Nat.{ℕ}
 use native.Mathlib.Omega.{arith}
 use lib.Dec.{leb, eqb}
 use borrow.Author.Tests.{leb-true, leb-false, le-leb, eqb-true, eqb-false, eq-eqb, ne-eqb}
-use Rattle.mesh.specs.Sort.{elem}
+use Rattle.mesh.specs.inside.Sort.{elem}
 use Rattle.mesh.specs.Complex.{mem}
 use Rattle.mesh.proofs.Laws.Bools.{split}
 

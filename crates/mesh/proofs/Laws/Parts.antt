@@ -13,7 +13,7 @@ use lib.Seq.{getD-take, getD-drop, getD-append-add, ext-getD, length-take-le, ta
 use borrow.Author.Tests.{ltb-true, ltb-false, le-leb, lt-leb, leb-true, leb-false}
 use borrow.Rule.Slice.PartMut.{midOf, postOf, putMid, take-put}
 use Rattle.mesh.specs.Words.{wordAt, zeroWords, inside, copied}
-use Rattle.mesh.specs.Rows.{Off}
+use Rattle.mesh.specs.inside.Rows.{Off}
 
 -- one of two numbers is the lower
 pub side : (i k : ℕ) → (i < k) ⊎ (k ≤ i)

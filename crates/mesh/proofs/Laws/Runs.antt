@@ -10,8 +10,8 @@ use lib.Dec.{leb}
 use lib.ListN.{length, take, drop, drop-of-length-le}
 use lib.Seq.{drop-drop, take-take}
 use borrow.Author.Tests.{le-leb, lt-leb}
-use Rattle.mesh.specs.Sort.{leading}
-use Rattle.mesh.specs.Rows.{rows, eqRow, fitRows, run, runLength}
+use Rattle.mesh.specs.inside.Sort.{leading}
+use Rattle.mesh.specs.inside.Rows.{rows, eqRow, fitRows, run, runLength}
 use Rattle.mesh.proofs.Laws.Rows.{fit-words, one-row, drop-rows, length-rows}
 
 -- how many rows at the front begin with the key

@@ -7,7 +7,8 @@ use mathlib.Core.List.{List, [], _∷_}
 use Prim.Native.Nat.{suc, _≤_}
 use native.Mathlib.Omega.{arith}
 use lib.ListN.{length}
-use Rattle.mesh.specs.Sort.{before, headed, ordered, elem, uniqueAfter, unique}
+use Rattle.mesh.specs.Sort.{uniqueAfter, unique}
+use Rattle.mesh.specs.inside.Sort.{before, headed, ordered, elem}
 use borrow.Author.Tests.{not-true}
 use Rattle.mesh.proofs.Laws.Bools.{split, clash, fails, and-intro, and-left, and-right}
 use Rattle.mesh.proofs.Laws.Sort.{ordered-tail}

@@ -18,21 +18,22 @@ use Rattle.geometry.specs.declared.point.Point.{Point}
 use Rattle.geometry.specs.declared.bounds.Options.{Options}
 use Rattle.mesh.specs.declared.star.Index.{Index}
 use Rattle.mesh.specs.declared.element.Tet.{Tet}
-use Rattle.mesh.specs.Words.{wordAt, zeroWords, copied, inside}
+use Rattle.mesh.specs.Words.{wordAt, zeroWords, copied, inside, flat}
 use Rattle.mesh.specs.Sort.{sort}
-use Rattle.mesh.specs.Rows.{flat, leRow}
+use Rattle.mesh.specs.inside.Rows.{leRow}
 use Rattle.mesh.specs.Complex.{keep}
 use Rattle.mesh.specs.Tests.{every, under, nodup}
-use Rattle.mesh.specs.List.{gone}
+use Rattle.mesh.specs.inside.List.{gone}
 use Rattle.mesh.specs.Element.{tets, verticesOf}
-use Rattle.mesh.specs.Group.{groupRow, rankOf, groupRows, groupFits, groupedArea}
+use Rattle.mesh.specs.Group.{rankOf}
+use Rattle.mesh.specs.inside.Group.{groupRow, groupRows, groupFits, groupedArea}
 use Rattle.mesh.specs.Intake.{wellNumbered}
-use Rattle.mesh.specs.Star.{Complete, goneWord, built, written}
+use Rattle.mesh.specs.inside.Star.{Complete, goneWord, built, written}
 use Rattle.mesh.proofs.Laws.Star.Written.{length-written, written-below, written-behind, written-at}
 use Rattle.mesh.proofs.Laws.Star.Hanging.{length-built, built-outside, built-complete}
 use Rattle.mesh.proofs.Laws.Star.Calls.{tets-same}
 use Rattle.repair.specs.Mesh.{Mesh}
-use Rattle.repair.specs.Layout.{Room, Stands, flagsAt, slotsIn, liveIn, slotOk}
+use Rattle.repair.specs.inside.Layout.{Room, Stands, flagsAt, slotsIn, liveIn, slotOk}
 use Rattle.repair.proofs.Laws.Layout.{room-laid}
 
 -- a word of two lists one behind the other

@@ -14,7 +14,7 @@ use Rattle.mesh.proofs.Laws.Complex.Sets.{and-fst, and-snd}
 use Rattle.repair.specs.declared.answer.Answer.the-variants.{Refused}
 use Rattle.repair.specs.Improve as def
 use Rattle.repair.specs.Step.{State, Call, Pass, meshOf, given, lengthsOf, resultOf, finish, step}
-use Rattle.repair.specs.Fitting.{Fitting}
+use Rattle.repair.specs.inside.improve.Fitting.{Fitting}
 use Rattle.repair.proofs.Laws.Improve.Intake.{Passed, intake-passed}
 use Rattle.repair.proofs.Laws.Lengths.{LongEnough, long-enough}
 

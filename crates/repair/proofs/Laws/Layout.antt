@@ -9,12 +9,12 @@ use lib.Seq.{getD-drop}
 use Rattle.geometry.specs.declared.bounds.Options.{Options}
 use Rattle.mesh.specs.declared.star.Index.{Index}
 use Rattle.mesh.specs.Words.{wordAt}
-use Rattle.mesh.specs.Star.{Laid, Complete, chainOf, lengthOf}
+use Rattle.mesh.specs.inside.Star.{Laid, Complete, chainOf, lengthOf}
 use Rattle.mesh.proofs.Laws.Star.Chains.{complete-kept}
 use Rattle.mesh.proofs.Laws.Star.Calls.{tets-same}
 use Rattle.repair.specs.Mesh.{Mesh}
 use Rattle.repair.specs.Improve.{State}
-use Rattle.repair.specs.Layout.{Room, Stands, flagsAt, pairsAt, edgesAt, slotsIn, liveIn}
+use Rattle.repair.specs.inside.Layout.{Room, Stands, flagsAt, pairsAt, edgesAt, slotsIn, liveIn}
 
 -- the areas of the index lie one behind the other
 pub room-laid : {x : Index} {n m : ℕ} → Room x n m → Laid x m

@@ -13,9 +13,9 @@ use Rattle.mesh.proofs.Laws.Parts.{side}
 use Rattle.mesh.proofs.Laws.Bools.{and-intro}
 use Rattle.repair.specs.Mesh.{Mesh}
 use Rattle.repair.specs.Improve.{State, stratumRule, activeGroup, pairOff, partners, mayGo}
-use Rattle.repair.specs.Layout.{Stands, Pairs, pairsAt}
-use Rattle.repair.specs.Pairs.{Paired}
-use Rattle.repair.specs.Round.{MayPair}
+use Rattle.repair.specs.inside.Layout.{Stands, Pairs, pairsAt}
+use Rattle.repair.specs.inside.improve.Partners.{Paired}
+use Rattle.repair.specs.inside.improve.Round.{MayPair}
 use Rattle.repair.proofs.Laws.Pairs.Found.{stands-same}
 use Rattle.repair.proofs.Laws.Pairs.Apart.{some-off, some-pairs, none-off}
 use Rattle.repair.proofs.Laws.Replace.Pairs.{pairs-few}

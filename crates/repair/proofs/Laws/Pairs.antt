@@ -1,4 +1,4 @@
--- The pairs of a direction: laws of src/pairs.rt.
+-- The pairs of a direction: laws of src/improve/partners.rt.
 pub mod Bits
 pub mod Rows
 pub mod Partners

@@ -16,9 +16,9 @@ use Rattle.mesh.specs.Complex.{keep}
 use Rattle.mesh.specs.Tests.{every}
 use Rattle.mesh.specs.Element.{tets, verticesOf}
 use Rattle.mesh.specs.Intake.{wellNumbered}
-use Rattle.mesh.specs.List.{gone}
-use Rattle.mesh.specs.Star.{goneWord}
-use Rattle.mesh.specs.About as about
+use Rattle.mesh.specs.inside.List.{gone}
+use Rattle.mesh.specs.inside.Star.{goneWord}
+use Rattle.mesh.specs.inside.About as about
 use Rattle.mesh.specs.Measure.{measure}
 use Rattle.mesh.proofs.Laws.Complex.Sets.{split, clash, or-cases, and-fst, and-snd}
 use Rattle.mesh.proofs.Laws.List.Bad.{keep-few}
@@ -26,8 +26,8 @@ use mathlib.Core.Logic.{inl, inr}
 use Rattle.mesh.proofs.Laws.About.Calls.{Copied, live-count, live-copied}
 use borrow.Author.Tests.{eq-eqb, eqb-true}
 use Rattle.repair.specs.Improve as def
-use Rattle.repair.specs.Layout.{Room, Stands, Reads, Ready, slotsIn, liveIn, slotOk}
-use Rattle.repair.specs.Finish.{EndArea, EndBuffers, improveEnd}
+use Rattle.repair.specs.inside.Layout.{Room, Stands, Reads, Ready, slotsIn, liveIn, slotOk}
+use Rattle.repair.specs.inside.improve.Renumber.{EndArea, EndBuffers, improveEnd}
 use Rattle.repair.specs.Step.{State, meshOf, finish}
 use Rattle.repair.proofs.Laws.Layout.{room-laid}
 use Rattle.mesh.proofs.Laws.Intake.Reads.{length-tets}

@@ -19,9 +19,9 @@ use Rattle.mesh.specs.Sets.{among}
 use Rattle.mesh.specs.Measure.{Measure, measure}
 use Rattle.repair.specs.Mesh.{Mesh}
 use Rattle.repair.specs.Improve.{State, stratumRule, activeGroup, pairOk, pairOff, pairsFor, about, collapsed, gains, mayGo, go, tryEdge, tryEdges}
-use Rattle.repair.specs.Layout.{Room, Stands, Reads, Ready, Same, Pairs, flagsAt, pairsAt, edgesAt, pairsOf, pairsIn, edgesOf, edgesIn}
-use Rattle.repair.specs.Replace.{Replaces}
-use Rattle.repair.specs.Round.{below, wayOf, MayPair}
+use Rattle.repair.specs.inside.Layout.{Room, Stands, Reads, Ready, Same, Pairs, flagsAt, pairsAt, edgesAt, pairsOf, pairsIn, edgesOf, edgesIn}
+use Rattle.repair.specs.inside.improve.Collapse.{Replaces}
+use Rattle.repair.specs.inside.improve.Round.{below, wayOf, MayPair}
 use Rattle.mesh.proofs.Laws.Complex.Sets.{clash, and-fst, and-snd, or-right}
 use Rattle.repair.proofs.Laws.Layout.{stands-kept}
 use Rattle.repair.proofs.Laws.Replace.Pairs.{length-pairs}

@@ -14,20 +14,21 @@ use Rattle.geometry.specs.Bounds.{spacing}
 use Rattle.mesh.specs.declared.element.Pair.{Pair}
 use Rattle.mesh.specs.declared.element.Tet.{Tet}
 use Rattle.mesh.specs.declared.star.Index.{Index}
-use Rattle.mesh.specs.Complex.{IsElement, keep}
+use Rattle.mesh.specs.Complex.{keep}
+use Rattle.mesh.specs.inside.Complex.{IsElement}
 use Rattle.mesh.specs.Tests.{every}
 use Rattle.mesh.specs.Element.{verticesOf}
 use Rattle.mesh.specs.Intake.{wellNumbered}
-use Rattle.mesh.specs.List.{gone}
-use Rattle.mesh.specs.Star.{goneWord}
+use Rattle.mesh.specs.inside.List.{gone}
+use Rattle.mesh.specs.inside.Star.{goneWord}
 use Rattle.mesh.specs.Measure.{Measure, measure}
 use Rattle.mesh.proofs.Laws.Bools.{and-intro}
 use Rattle.mesh.proofs.Laws.Complex.Sets.{clash, or-cases, and-fst, and-snd}
 use Rattle.mesh.proofs.Laws.Link.Members.{kept-elim, every-elim}
 use Rattle.repair.specs.Mesh.{Mesh}
 use Rattle.repair.specs.Improve.{State, listedEdges, tryEdge, tryEdges, round, rounds}
-use Rattle.repair.specs.Layout.{Stands, Reads, Ready, edgesAt, Same, edgesIn, slotsIn, liveIn, slotOk}
-use Rattle.repair.specs.Round.{below}
+use Rattle.repair.specs.inside.Layout.{Stands, Reads, Ready, edgesAt, Same, edgesIn, slotsIn, liveIn, slotOk}
+use Rattle.repair.specs.inside.improve.Round.{below}
 use Rattle.repair.proofs.Laws.Improve.Edges.{joins, listed-joins}
 use Rattle.repair.proofs.Laws.Improve.Intake.{numbered-element}
 use Rattle.repair.proofs.Laws.Improve.Passes.{rounds-end}

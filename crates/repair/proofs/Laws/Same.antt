@@ -7,7 +7,7 @@ use lib.ListN.{length, List·getD-eq-default}
 use lib.Seq.{getD-take, getD-drop}
 use borrow.Rule.Slice.PartMut.{midOf, putMid, same-len-mid, mid-len, take-put, drop-put}
 use Rattle.mesh.specs.Words.{wordAt}
-use Rattle.repair.specs.Layout.{Same}
+use Rattle.repair.specs.inside.Layout.{Same}
 
 pub same-refl : (s : List ℕ) (a b : ℕ) → Same s s a b
 same-refl s a b = record { long = refl; before = λ j h. refl; behind = λ j h. refl }

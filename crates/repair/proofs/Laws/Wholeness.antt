@@ -12,7 +12,7 @@ use Rattle.geometry.specs.Literals.{tenth}
 use Rattle.geometry.specs.Units.{unitsOf}
 use Rattle.mesh.specs.declared.element.Tet.{Tet}
 use Rattle.mesh.specs.declared.element.Triple.{Triple}
-use Rattle.mesh.specs.Complex.{Proper}
+use Rattle.mesh.specs.inside.Complex.{Proper}
 use Rattle.mesh.specs.Element.{verticesOf, keyOf}
 use Rattle.mesh.specs.Boundary.{allFaces, withKey}
 use Rattle.mesh.specs.Intake.{sizedPoint, boundsIn, optionsIn, intake}

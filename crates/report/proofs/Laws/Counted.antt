@@ -11,9 +11,10 @@ use Rattle.geometry.specs.declared.field.Field.{Field}
 use Rattle.mesh.specs.declared.euler.Counts.{Counts}
 use Rattle.mesh.specs.declared.intake.Sizes.{Sizes}
 use Rattle.mesh.specs.Words.{pointsOf}
-use Rattle.mesh.specs.Complex.{Proper, alternating}
+use Rattle.mesh.specs.Complex.{alternating}
+use Rattle.mesh.specs.inside.Complex.{Proper}
 use Rattle.mesh.specs.Element.{tets, verticesOf}
-use Rattle.mesh.specs.Euler.{countsOf, alternatingOf}
+use Rattle.mesh.specs.inside.Euler.{countsOf, alternatingOf}
 use Rattle.mesh.proofs.Laws.Intake.Reads.{length-points}
 use Rattle.mesh.proofs.Laws.Euler.Faces.{alternating-counts}
 use Rattle.repair.specs.declared.answer.Answer.{Answer}
@@ -29,7 +30,7 @@ use Rattle.report.specs.declared.run.Ran.{Ran}
 use Rattle.report.specs.declared.run.Ran.the-variants.{Finished, Stopped}
 use Rattle.report.specs.Run.{Setting, callIn, after, called, runFlip, runSmooth, runPasses, sizesLeft}
 use Rattle.report.specs.Table.{lowCount, insideCount, tableText, refusedText}
-use Rattle.report.specs.Written.{Written, Ready}
+use Rattle.report.specs.inside.Written.{Written, Ready}
 use Rattle.report.specs.Report.{tableOf, printed}
 use Rattle.report.proofs.Laws.Passes.{step-room}
 

@@ -7,7 +7,7 @@ use lib.IntN.{subℕ}
 use lib.ListN.{set}
 use borrow.Author.Tests.{lt-ltb, le-ltb}
 use Rattle.report.specs.Table.{decimal, signed}
-use Rattle.report.specs.Written.{Written}
+use Rattle.report.specs.inside.Written.{Written}
 use Rattle.report.proofs.Laws.Text.{written-then}
 
 -- three texts

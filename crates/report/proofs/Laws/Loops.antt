@@ -12,11 +12,11 @@ use Rattle.geometry.specs.declared.field.Field.{Field}
 use Rattle.mesh.specs.declared.element.Tet.{Tet}
 use Rattle.mesh.specs.Complex.{keep}
 use Rattle.mesh.specs.Element.{tet, tets}
-use Rattle.mesh.specs.Intake.{tetAt}
+use Rattle.mesh.specs.inside.Intake.{tetAt}
 use Rattle.mesh.proofs.Laws.Bools.{split}
 use Rattle.mesh.proofs.Laws.List.Push.{keep-append}
 use Rattle.report.specs.Table.{insideLine, insideLines, elementLine, elementLines}
-use Rattle.report.specs.Written.{Written}
+use Rattle.report.specs.inside.Written.{Written}
 use Rattle.report.proofs.Laws.Text.{written-then}
 use Rattle.mesh.proofs.Laws.Intake.Reads.{tet-drop}
 

@@ -15,10 +15,10 @@ use Rattle.mesh.specs.declared.euler.Counts.{Counts}
 use Rattle.mesh.specs.declared.intake.Sizes.{Sizes}
 use Rattle.mesh.specs.Words.{inside, copied}
 use Rattle.mesh.specs.Sort.{sort}
-use Rattle.mesh.specs.Rows.{leRow, eqRow}
+use Rattle.mesh.specs.inside.Rows.{leRow, eqRow}
 use Rattle.mesh.specs.Element.{tets}
 use Rattle.mesh.specs.Intake.{intake}
-use Rattle.mesh.specs.Euler.{vertexRows, edgeRows, triangleRows, spread, different, countsOf, countFits, Counted, countedIn}
+use Rattle.mesh.specs.inside.Euler.{vertexRows, edgeRows, triangleRows, spread, different, countsOf, countFits, Counted, countedIn}
 use Rattle.mesh.proofs.Laws.Bools.{clash, and-intro}
 use Rattle.mesh.proofs.Laws.Parts.{into-is, length-copied}
 use Rattle.mesh.proofs.Laws.Sort.{length-sort}
@@ -31,7 +31,7 @@ use Rattle.repair.specs.Step.{State, Call, Pass, sizesAfter, elementWords, comm
 use Rattle.report.specs.declared.run.Ran.{Ran}
 use Rattle.report.specs.declared.run.Ran.the-variants.{Finished, Stopped}
 use Rattle.report.specs.Run.{Setting, callIn, after, called, runFlip, runSmooth, runPasses}
-use Rattle.report.specs.Written.{Roomy}
+use Rattle.report.specs.inside.Written.{Roomy}
 
 -- ---- the counts of simplices
 

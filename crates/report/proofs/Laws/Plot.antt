@@ -24,7 +24,7 @@ use Rattle.report.specs.Format.{fieldPlaces, ballKind, mostElements}
 use Rattle.report.specs.Bytes.{listed}
 use Rattle.report.specs.Block.{verticesIn, elementsIn, fieldsIn, kindAt, vertexBlocks, parameterRow, pointRow, maskRow, elementRow, fileNumber, kindsNumber, headerOptions, headerFields, readingNumber, plotIn, refused, read, reading}
 use Rattle.report.specs.Table.{refusedText}
-use Rattle.report.specs.Written.{Written}
+use Rattle.report.specs.inside.Written.{Written}
 use Rattle.report.specs.declared.run.Ran.{Ran}
 use Rattle.report.specs.Run.{Setting, runPasses, sizesLeft}
 use Rattle.report.specs.Report.{wordRoom, floatRoom, placed, blank, printed, runText, textOf, report}

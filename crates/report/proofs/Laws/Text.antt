@@ -13,7 +13,7 @@ use lib.Seq.{sets, take-suc, take-all, length-take-le}
 use borrow.Author.Tests.{lt-ltb, le-ltb, ltb-false}
 use Rattle.mesh.proofs.Laws.Bools.{split}
 use Rattle.report.specs.Table.{digits, decimal}
-use Rattle.report.specs.Written.{Written}
+use Rattle.report.specs.inside.Written.{Written}
 
 -- a text behind another
 pub sets-append : (o : List ℕ) (p : ℕ) (a b : List ℕ) → sets o p (a ++ b) ≡ sets (sets o p a) (p + length a) b

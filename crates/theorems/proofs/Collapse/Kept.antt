@@ -12,7 +12,8 @@ use lib.Dec.{eqb}
 use Rattle.mesh.specs.declared.element.Tet.{Tet}
 use Rattle.mesh.specs.Complex.{mem, within}
 use Rattle.mesh.specs.Tests.{nodup}
-use Rattle.mesh.specs.Moves.{onto, Collapsible}
+use Rattle.mesh.specs.inside.Moves.{Collapsible}
+use Rattle.mesh.specs.Feature.{onto}
 use Rattle.mesh.specs.Element.{pair, verticesOf}
 use Rattle.mesh.proofs.Laws.Complex.Sets.{split, clash, mem-nil, out, Sub-cons, within-elim, within-intro}
 use Rattle.mesh.proofs.Laws.Link.Keys.{Fours}

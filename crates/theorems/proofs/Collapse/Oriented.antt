@@ -8,10 +8,11 @@ use native.Mathlib.Nat.{mod-lt}
 use native.Mathlib.Omega.{arith}
 use Rattle.mesh.specs.declared.element.Tet.{Tet}
 use Rattle.mesh.specs.declared.element.Triple.{Triple}
-use Rattle.mesh.specs.Complex.{Sub, Proper}
+use Rattle.mesh.specs.Complex.{Sub}
+use Rattle.mesh.specs.inside.Complex.{Proper}
 use Rattle.mesh.specs.Element.{triple, verticesOf, facesOf, keyOf, parityOf}
 use Rattle.mesh.specs.Boundary.{sameTriple, allFaces, withKey, boundaryNumber}
-use Rattle.mesh.specs.Surface.{OneOrTwo, one, two}
+use Rattle.mesh.specs.inside.Surface.{OneOrTwo, one, two}
 use Rattle.mesh.proofs.Laws.Boundary.Order.{same-refl, same-sound}
 use Rattle.mesh.proofs.Laws.Boundary.Meaning.{fine, fine-back}
 use Rattle.mesh.proofs.Laws.Link.Keys.{Fours, proper-fours, face-nodup, flip≢}

@@ -9,8 +9,9 @@ use native.Mathlib.Omega.{arith}
 use borrow.Author.Tests.{eqb-true, eq-eqb, not-true}
 use lib.Dec.{eqb}
 use lib.ListN.{length}
-use Rattle.mesh.specs.Complex.{mem, sub, within, keep, star, Nodup, Sub, Proper, SameComplex}
-use Rattle.mesh.specs.Moves.{flip23, flip32, Flippable23, Flippable32}
+use Rattle.mesh.specs.Complex.{mem, sub, within, keep, Nodup, Sub}
+use Rattle.mesh.specs.inside.Complex.{star, Proper, SameComplex}
+use Rattle.mesh.specs.inside.Moves.{flip23, flip32, Flippable23, Flippable32}
 use Rattle.mesh.proofs.Laws.Numbers.{eqb-same}
 use Rattle.mesh.proofs.Laws.Complex.Sets.{split, clash, nope, same, and-snd, mem-cases, apart, sub-elim, sub-intro, short, keep-mem, keep-nodup}
 use Rattle.mesh.proofs.Laws.Complex.Sums.{bit}

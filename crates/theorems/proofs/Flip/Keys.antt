@@ -11,7 +11,8 @@ use lib.Dec.{eqb}
 use lib.ListN.{length}
 use Rattle.mesh.specs.declared.element.Triple.{Triple}
 use Rattle.mesh.specs.declared.element.Tet.{Tet}
-use Rattle.mesh.specs.Sort.{sort, count}
+use Rattle.mesh.specs.Sort.{sort}
+use Rattle.mesh.specs.inside.Sort.{count}
 use Rattle.mesh.specs.Sets.{times}
 use Rattle.mesh.specs.Tests.{every}
 use Rattle.mesh.specs.Element.{verticesOf, cornersOf, keyOf, parityOf}

@@ -7,7 +7,8 @@ use mathlib.Core.List.{List, [], _∷_, List·Memᴰ, List·Memᴰ·head, List·
 use Prim.Native.Nat.{ℕ, _+_, _≤_}
 use native.Mathlib.Omega.{arith}
 use lib.ListN.{length}
-use Rattle.mesh.specs.Complex.{sub, within, keep, star, Sub, Proper, SameComplex}
+use Rattle.mesh.specs.Complex.{sub, within, keep, Sub}
+use Rattle.mesh.specs.inside.Complex.{star, Proper, SameComplex}
 use Rattle.mesh.proofs.Laws.Complex.Sets.{split, clash, sub-elim, sub-intro, within-elim, within-intro}
 use Rattle.mesh.proofs.Laws.Complex.Lists.{keep-intro, keep-pos}
 use Rattle.mesh.proofs.Laws.Complex.Same.{proper-keep}

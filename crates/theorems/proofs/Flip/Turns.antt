@@ -17,8 +17,9 @@ use Rattle.mesh.specs.declared.element.Pair.{Pair}
 use Rattle.mesh.specs.declared.element.Triple.{Triple}
 use Rattle.mesh.specs.declared.element.Tet.{Tet}
 use Rattle.mesh.specs.Sort.{sort, unique}
-use Rattle.mesh.specs.Complex.{star, Nodup, Proper, SameCount}
-use Rattle.mesh.specs.Tests.{every}
+use Rattle.mesh.specs.Complex.{Nodup}
+use Rattle.mesh.specs.inside.Complex.{star, Proper, SameCount}
+use Rattle.mesh.specs.Tests.{every, any}
 use Rattle.mesh.specs.Element.{tet, verticesOf, cornersOf}
 use Rattle.mesh.specs.Boundary.{boundaryNumber}
 use Rattle.mesh.specs.Measure.{Measure, measure, determinantOf, scoreOf, lowestOf}
@@ -26,7 +27,7 @@ use Rattle.mesh.proofs.Laws.Complex.Sets.{and-fst, and-snd}
 use Rattle.mesh.proofs.Laws.Link.Simplices.{rising, rising-nodup}
 use Rattle.mesh.proofs.Laws.Link.Keys.{proper-fours}
 use Rattle.mesh.proofs.Laws.Link.Closed.{AtMostTwo, boundary-two}
-use Rattle.repair.specs.Mesh.{Mesh, any}
+use Rattle.repair.specs.Mesh.{Mesh}
 use Rattle.repair.specs.Wholeness.{Exact}
 use Rattle.repair.specs.Flip.{State, slotHas, numbersWith, elementsAt, emptied, besides, oriented, accepted, replace, listedFaces, listedEdges, tryFace, tryFaces, tryEdge, tryEdges, flips}
 use Rattle.repair.proofs.Laws.Smooth.Scores.{AllNear, score-exact, lowest-one, lowest-under}

@@ -7,7 +7,7 @@ use Rattle.geometry.specs.declared.point.Point.{Point}
 use Rattle.mesh.specs.Manifold.{Tested}
 use Rattle.halmafir.specs.Arrays.{boundsOf}
 use Rattle.export.specs.Answers.{asNumber}
-use Rattle.mesh.specs.LinkRows.{stratumOf, linkOkIn}
+use Rattle.mesh.specs.Feature.{stratumOf, linkOkIn}
 use lib.ListN.{length}
 use Rattle.mesh.specs.Words.{pointsOf, copied}
 use borrow.Author.Needs.{needs}

@@ -13,7 +13,8 @@ use lib.Ieee.Fits.{up-pos, down-pos, round-fits, sub-fits}
 use lib.Ieee.Exact.{HasValue}
 use lib.Ieee.Scale.{round-same, round-val, grid}
 use borrow.Author.Tests.{ltb-true, ltb-false, lt-ltb, le-ltb, ne-eqb}
-use Rattle.geometry.specs.Units.{unitsOf, Within, NotNegative}
+use Rattle.geometry.specs.Units.{unitsOf, NotNegative}
+use Rattle.geometry.specs.inside.Units.{Within}
 use Rattle.geometry.proofs.Laws.Float.Grid.{grid-mono, grid-exact}
 use Rattle.geometry.proofs.Laws.Float.Units.{units-exact, test, sums}
 use Rattle.geometry.proofs.Laws.Float.Magnitude.{round-within, within-neg, within-more, of-value}

@@ -13,7 +13,8 @@ use lib.Ieee.{Float, nan, inf, fin, binary64, up, down, unlike, round, sum, neg,
 use lib.Ieee.Fits.{up-pos, down-pos}
 use lib.Ieee.Exact.{HasValue}
 use lib.Ieee.Scale.{round-same, round-val, round-under, grid, finite}
-use Rattle.geometry.specs.Units.{unitsOf, Within}
+use Rattle.geometry.specs.Units.{unitsOf}
+use Rattle.geometry.specs.inside.Units.{Within}
 use Rattle.geometry.proofs.Laws.Float.Grid.{grid-mono, grid-exact}
 use Rattle.geometry.proofs.Laws.Float.Units.{units-exact, units-is, units-grid, place, sums}
 use Rattle.geometry.proofs.Laws.Float.Magnitude.{within-neg, within-finite}

@@ -11,7 +11,7 @@ use lib.Ieee.{Float, nan, inf, fin, binary64, up, down, unlike, round, sum, neg,
 use lib.Ieee.Fits.{down-pos}
 use lib.Ieee.Exact.{HasValue}
 use lib.Ieee.Scale.{round-val, grid, finite}
-use Rattle.geometry.specs.Units.{Within, within}
+use Rattle.geometry.specs.inside.Units.{Within, within}
 use Rattle.geometry.proofs.Laws.Float.Grid.{grid-mono, grid-exact}
 use Rattle.geometry.proofs.Laws.Float.Sign.{round-neg}
 

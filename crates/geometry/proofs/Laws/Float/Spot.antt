@@ -12,7 +12,8 @@ use lib.Ieee.{Float, nan, inf, fin, binary64, up, down, round, sum, neg, add, su
 use lib.Ieee.Fits.{up-pos, down-pos, and-l, and-r}
 use lib.Ieee.Scale.{round-same}
 use borrow.Author.Tests.{ltb-true, ltb-false, lt-ltb, le-ltb}
-use Rattle.geometry.specs.Units.{unitsOf, Within}
+use Rattle.geometry.specs.Units.{unitsOf}
+use Rattle.geometry.specs.inside.Units.{Within}
 use Rattle.geometry.proofs.Laws.Float.Units.{units-exact, units-is, test, sums, place}
 
 -- the place, for a K above the units

@@ -12,7 +12,8 @@ use lib.Ieee.Fits.{up-pos, down-pos}
 use lib.Ieee.Exact.{HasValue, round-exact}
 use lib.Ieee.Scale.{finite}
 use borrow.Author.Tests.{ltb-true, ltb-false, lt-ltb, le-ltb}
-use Rattle.geometry.specs.Units.{Within, NotNegative}
+use Rattle.geometry.specs.Units.{NotNegative}
+use Rattle.geometry.specs.inside.Units.{Within}
 use Rattle.geometry.proofs.Laws.Float.Mirror.{zero-of, zeroed}
 use Rattle.geometry.proofs.Laws.Float.Sign.{Signed, round-signed}
 

@@ -13,7 +13,7 @@ use lib.Ieee.Exact.{HasValue, round-exact}
 use lib.Ieee.Scale.{round-same}
 use borrow.Author.Tests.{ltb-true, ltb-false, le-ltb, le-leb, lt-leb}
 use Rattle.geometry.specs.Float.{zero64}
-use Rattle.geometry.specs.Units.{Within}
+use Rattle.geometry.specs.inside.Units.{Within}
 use Rattle.geometry.specs.Rank.{nearestWhole, nearestAway}
 use Rattle.geometry.proofs.Laws.Float.Units.{place}
 

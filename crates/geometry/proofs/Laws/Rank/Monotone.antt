@@ -15,7 +15,8 @@ use lib.Ieee.Nearest.{div-mono}
 use lib.Ieee.Order.{transfer}
 use lib.Ieee.Positive.{num, den, value→cross}
 use lib.Ieee.Scale.{grid, finite, round-val, round-under}
-use Rattle.geometry.specs.Units.{Within, NotNegative}
+use Rattle.geometry.specs.Units.{NotNegative}
+use Rattle.geometry.specs.inside.Units.{Within}
 use Rattle.geometry.proofs.Laws.Float.Grid.{grid-mono}
 use Rattle.geometry.proofs.Laws.Float.Sign.{round-neg}
 use Rattle.geometry.proofs.Laws.Float.Magnitude.{within-finite}

@@ -12,7 +12,7 @@ use lib.Ieee.Exact.{HasValue, round-exact}
 use lib.Ieee.Scale.{grid, finite, round-same, round-val, round-under}
 use borrow.Author.Tests.{ltb-true, lt-ltb, le-ltb}
 use Rattle.geometry.specs.Float.{one64}
-use Rattle.geometry.specs.Units.{Within, within}
+use Rattle.geometry.specs.inside.Units.{Within, within}
 use Rattle.geometry.specs.Rank.{nearestAway, e11, share, rankValue}
 use Rattle.geometry.proofs.Laws.Float.Mirror.{none-left}
 use Rattle.geometry.proofs.Laws.Float.Grid.{grid-mono, grid-exact}

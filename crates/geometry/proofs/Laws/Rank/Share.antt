@@ -8,7 +8,8 @@ use lib.Pow.{pow-pos}
 use lib.Ieee.{Float, binary64, fits, sub, mul, le, lt}
 use lib.Ieee.Scale.{grid, finite, round-under}
 use mathlib.Core.Logic.{inl, inr}
-use Rattle.geometry.specs.Units.{Within, within, NotNegative}
+use Rattle.geometry.specs.Units.{NotNegative}
+use Rattle.geometry.specs.inside.Units.{Within, within}
 use Rattle.geometry.proofs.Laws.Float.Grid.{grid-mono}
 use Rattle.geometry.proofs.Laws.Float.Magnitude.{less-by, mul-within-value, within-finite}
 use Rattle.geometry.proofs.Laws.Float.Up.{Up, mul-up, div-up, up-not-negative}

@@ -13,7 +13,7 @@ use lib.Ieee.{Float, inf, binary64, lt, fits, toBits}
 use lib.Ieee.Exact.{HasValue}
 use Rattle.geometry.specs.Float.{zero64}
 use Rattle.geometry.specs.Root.{number, isqrt, rootOf, sqrt}
-use Rattle.geometry.specs.Whole.{IsRoot}
+use Rattle.geometry.specs.inside.Whole.{IsRoot}
 use Rattle.geometry.proofs.Laws.Root.Whole.{isqrt-is}
 use Rattle.geometry.proofs.Laws.Root.Parts.{root-value, whole, aligned, root-low, root-high, half-low, half-high, bit-of, split-of, few-of, top-of, even-of}
 use Rattle.geometry.proofs.Laws.Root.Value.{field, digits, bits-small, normal, subnormal, low-digits, shifted, is-infinite, normal-value, low-size}

@@ -5,7 +5,7 @@ use Prim.Native.Nat.{ℕ, zero, suc, _+_, _-_, _*_, _/_, _^_, _≤_, _<_}
 use native.Mathlib.Nat.{pow-succ'}
 use native.Mathlib.Omega.{arith}
 use lib.Pow.{pow-pos}
-use Rattle.geometry.specs.Whole.{IsRoot}
+use Rattle.geometry.specs.inside.Whole.{IsRoot}
 
 pub record Step (X rest s b : ℕ) : Type 0 where
   pub i : ℕ

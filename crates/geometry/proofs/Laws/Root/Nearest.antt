@@ -9,7 +9,7 @@ use mathlib.Core.Bool.{Bool, true, false, cond}
 use lib.Dec.{T, eqb, eqb→eq}
 use lib.Ieee.Nearest.{closest}
 use Rattle.geometry.specs.Root.{Exact}
-use Rattle.geometry.specs.Whole.{IsRoot}
+use Rattle.geometry.specs.inside.Whole.{IsRoot}
 use Rattle.geometry.proofs.Laws.Root.Whole.{IsExact, is-root, scaled-low, scaled-high}
 use Rattle.geometry.proofs.Laws.Root.Rounding.{Closest, closest-is, halves, bit-le}
 

@@ -10,7 +10,7 @@ use lib.Ieee.{Float, binary64, units, ofBits, fits}
 use lib.Ieee.Fits.{round-fits}
 use lib.Ieee.Exact.{HasValue, units-val}
 use Rattle.geometry.specs.Root.{number, exactRoot, rounded, rootOf}
-use Rattle.geometry.specs.Whole.{IsRoot}
+use Rattle.geometry.specs.inside.Whole.{IsRoot}
 use Rattle.geometry.proofs.Laws.Root.Whole.{exact-root, is-root, square-lt, scaled-low, scaled-high}
 use Rattle.geometry.proofs.Laws.Root.Nearest.{closest-root}
 use Rattle.geometry.proofs.Laws.Root.Rounding.{rounded-is, halves, in-range}

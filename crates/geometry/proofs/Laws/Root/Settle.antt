@@ -6,7 +6,7 @@ use native.Mathlib.Nat.{lt-of-not-le, lt-of-le-of-lt, le-of-lt, mul-le-mul-left,
 use native.Mathlib.Decide.{decLe}
 use native.Mathlib.Omega.{arith}
 use lib.Pow.{pow-add, pow-pos}
-use Rattle.geometry.specs.Whole.{IsRoot, NearRoot, Halved}
+use Rattle.geometry.specs.inside.Whole.{IsRoot, NearRoot, Halved}
 
 -- ---- products of words that do not overflow
 pub product : {a b : ℕ} (j k : ℕ) → a < 2 ^ j → b < 2 ^ k → a * b < 2 ^ (j + k)

@@ -7,7 +7,7 @@ use native.Mathlib.Omega.{arith}
 use mathlib.Core.Bool.{Bool, true, false, not, cond}
 use lib.Dec.{lit≤, T, leb, leb→le, nleb→lt}
 use Rattle.geometry.specs.Root.{isqrt, Exact, exactRoot}
-use Rattle.geometry.specs.Whole.{IsRoot}
+use Rattle.geometry.specs.inside.Whole.{IsRoot}
 
 pub square-lt : (a b : ℕ) → a * a < b * b → a < b
 square-lt a b h = lt-of-not-le (λ (g : b ≤ a). not-le-of-lt h (mul-le-mul g g))

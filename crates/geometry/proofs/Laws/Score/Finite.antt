@@ -17,7 +17,8 @@ use Rattle.geometry.specs.Root.{number, operand, exactRoot, rounded, roo
 use Rattle.geometry.proofs.Laws.Root.Whole.{exact-root, root-le}
 use Rattle.geometry.proofs.Laws.Root.Special.{number-small}
 use Rattle.geometry.proofs.Laws.Root.Rounding.{halves}
-use Rattle.geometry.specs.Units.{unitsOf, Within, within, NotNegative}
+use Rattle.geometry.specs.Units.{unitsOf, NotNegative}
+use Rattle.geometry.specs.inside.Units.{Within, within}
 use Rattle.geometry.proofs.Laws.Float.Units.{units-exact}
 use Rattle.geometry.proofs.Laws.Float.Magnitude.{mul-within, add-within, sub-within, within-more}
 use Rattle.geometry.proofs.Laws.Float.Sign.{Signed}

@@ -4,7 +4,7 @@ use native.Mathlib.Omega.{arith}
 use mathlib.Core.Bool.{not}
 use lib.Dec.{T, lit<, lit≤}
 use lib.Ieee.{Float, isNan}
-use Rattle.geometry.specs.Units.{within}
+use Rattle.geometry.specs.inside.Units.{within}
 use Rattle.geometry.proofs.Laws.Float.Magnitude.{plus, less-by, times, more}
 use Rattle.geometry.specs.declared.point.Point.{Point}
 use Rattle.geometry.specs.Float.{_+₆₄_, _-₆₄_, _*₆₄_}

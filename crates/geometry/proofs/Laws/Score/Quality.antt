@@ -14,7 +14,7 @@ use Rattle.geometry.specs.Root.{number, operand, exactRoot, rounded, roo
 use Rattle.geometry.proofs.Laws.Root.Whole.{whole-small}
 use Rattle.geometry.proofs.Laws.Root.Special.{number-small}
 use Rattle.geometry.proofs.Laws.Root.Rounding.{halves, bit-le}
-use Rattle.geometry.specs.Units.{Within}
+use Rattle.geometry.specs.inside.Units.{Within}
 use Rattle.geometry.proofs.Laws.Float.Magnitude.{round-within, mul-within, within-neg}
 use Rattle.geometry.proofs.Laws.Float.Sign.{Signed, round-signed}
 use Rattle.geometry.proofs.Laws.Float.Up.{Up, signed-up, add-signed, square-signed, mul-up, div-up, up-not-nan, up-not-below}

@@ -14,7 +14,7 @@ use lib.Ieee.Fits.{down-pos, kept-lt}
 use lib.Ieee.Bits.{ofBits-toBits}
 use borrow.Author.Tests.{ltb-true, ltb-false, lt-ltb, le-ltb, eqb-true, eqb-false, eq-eqb, ne-eqb}
 use Rattle.geometry.specs.Units.{unitsOf, NotNegative}
-use Rattle.geometry.specs.Word.{orderBits}
+use Rattle.geometry.specs.inside.Word.{orderBits}
 use Rattle.geometry.proofs.Laws.Float.Units.{units-is, units-exact, lt-units, test}
 
 -- the bits of n units

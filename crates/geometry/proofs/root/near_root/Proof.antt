@@ -6,7 +6,7 @@ use native.Mathlib.Nat.{mod-eq-of-lt, lt-of-lt-of-le}
 use native.Mathlib.Omega.{arith}
 use lib.Dec.{lit≤}
 use lib.Ieee.{binary64, ofBits}
-use Rattle.geometry.specs.Whole.{Halved}
+use Rattle.geometry.specs.inside.Whole.{Halved}
 use Rattle.geometry.proofs.Laws.Root.Parts.{aligned, root-high}
 use Rattle.geometry.proofs.Laws.Root.Settle.{halved}
 use Rattle.geometry.proofs.Laws.Root.Value.{above-any}

@@ -12,13 +12,13 @@ use lib.Seq.{paste, take-all, take-suc, getD-drop}
 use borrow.Author.Tests.{lt-ltb, le-ltb, le-leb}
 use Rattle.mesh.specs.declared.element.Tet.{Tet}
 use Rattle.mesh.specs.declared.star.Index.{Index}
-use Rattle.mesh.specs.Words.{wordAt, inside}
-use Rattle.mesh.specs.Rows.{flat, fitRows}
+use Rattle.mesh.specs.Words.{wordAt, inside, flat}
+use Rattle.mesh.specs.inside.Rows.{fitRows}
 use Rattle.mesh.specs.Complex.{keep}
 use Rattle.mesh.specs.Element.{tet, tets, verticesOf}
-use Rattle.mesh.specs.Intake.{tetAt}
-use Rattle.mesh.specs.Star.{goneTet, cornerAt, Laid, laid, written}
-use Rattle.mesh.specs.About.{slotAt, wordsOf, spaceFor}
+use Rattle.mesh.specs.inside.Intake.{tetAt}
+use Rattle.mesh.specs.inside.Star.{goneTet, cornerAt, Laid, laid, written}
+use Rattle.mesh.specs.inside.About.{slotAt, wordsOf, spaceFor}
 use Rattle.mesh.proofs.Laws.Bools.{split, and-left, and-right}
 use Rattle.mesh.proofs.Laws.Parts.{side, within-test, within-is}
 use Rattle.mesh.proofs.Laws.Rows.{fit-test}

@@ -10,12 +10,11 @@ use lib.Seq.{paste, getD-take, getD-drop, length-take-le}
 use borrow.Author.Tests.{le-leb, lt-leb, leb-true, eq-eqb, ne-eqb}
 use Rattle.mesh.specs.declared.element.Tet.{Tet}
 use Rattle.mesh.specs.declared.star.Index.{Index}
-use Rattle.mesh.specs.Words.{wordAt}
-use Rattle.mesh.specs.Rows.{flat}
+use Rattle.mesh.specs.Words.{wordAt, flat}
 use Rattle.mesh.specs.Complex.{keep}
 use Rattle.mesh.specs.Element.{tet, tets, verticesOf}
-use Rattle.mesh.specs.Star.{goneTet, goneWord, cornerAt, Laid, written}
-use Rattle.mesh.specs.About.{slotAt, wordsOf, spaceFor, elementsIn, live, liveRoom, liveList, liveIn}
+use Rattle.mesh.specs.inside.Star.{goneTet, goneWord, cornerAt, Laid, written}
+use Rattle.mesh.specs.inside.About.{slotAt, wordsOf, spaceFor, elementsIn, live, liveRoom, liveList, liveIn}
 use Rattle.mesh.proofs.Laws.Bools.{and-intro, and-left, and-right}
 use Rattle.mesh.proofs.Laws.Star.Written.{written-none}
 use Rattle.mesh.proofs.Laws.About.Copies.{space-is, space-yes, paste-element, slot-is, slot-kept, slot-element, Copying, copy-start, copy-long, copy-read, copy-room, copy-turn, copy-end, each-map, each-keep, keep-one}

@@ -12,8 +12,8 @@ use borrow.Author.Tests.{le-leb, lt-leb, lt-ltb}
 use Rattle.mesh.specs.declared.star.Index.{Index}
 use Rattle.mesh.specs.Words.{wordAt}
 use Rattle.mesh.specs.Complex.{mem, Nodup}
-use Rattle.mesh.specs.Star.{gather, lengthOf, chainOf, slotsMet, Chains, Laid, laid, roomFor}
-use Rattle.mesh.specs.About.{members, clearOf, entriesOf, slotsOf, aboutRoom}
+use Rattle.mesh.specs.inside.Star.{gather, lengthOf, chainOf, slotsMet, Chains, Laid, laid, roomFor}
+use Rattle.mesh.specs.inside.About.{members, clearOf, entriesOf, slotsOf, aboutRoom}
 use Rattle.mesh.proofs.Laws.Bools.{split, and-intro}
 use Rattle.mesh.proofs.Laws.Complex.Sets.{clash, or-left, or-right}
 use Rattle.mesh.proofs.Laws.Star.Layout.{laid-is, room-yes}

@@ -14,7 +14,8 @@ use Rattle.mesh.specs.declared.boundary.Outcome.{Outcome}
 use Rattle.mesh.specs.declared.boundary.Outcome.the-variants.{Surface, Refused}
 use Rattle.mesh.specs.Words.{zeroWords}
 use Rattle.mesh.specs.Element.{tets}
-use Rattle.mesh.specs.Surface.{triplesOf, answerOf, surfaceWords, areaFits, Filled, areaAfter, boundaryIn, callFits, Call, boundaryCall}
+use Rattle.mesh.specs.Surface.{triplesOf, answerOf, surfaceWords, callFits, Call, boundaryCall}
+use Rattle.mesh.specs.inside.Surface.{areaFits, Filled, areaAfter, boundaryIn}
 use Rattle.mesh.proofs.Laws.Bools.{and-intro, and-left, and-right}
 use Rattle.mesh.proofs.Laws.Boundary.Faces.{tets-kept}
 use Rattle.mesh.proofs.Laws.Boundary.Whole.{words-count, triples-few, refused-words, filled-is, area-behind, refused-zeros}

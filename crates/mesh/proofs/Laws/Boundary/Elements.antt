@@ -14,7 +14,7 @@ use Rattle.mesh.specs.declared.element.Triple.{Triple}
 use Rattle.mesh.specs.Complex.{mem, keep, Nodup}
 use Rattle.mesh.specs.Element.{triple, facesOf, verticesOf, cornersOf, keyOf}
 use Rattle.mesh.specs.Boundary.{sameTriple, allFaces, withKey, boundaryOf}
-use Rattle.mesh.specs.Surface.{hasKey, AllDistinct}
+use Rattle.mesh.specs.inside.Surface.{hasKey, AllDistinct}
 use Rattle.mesh.proofs.Laws.Bools.{clash, or-swap}
 use Rattle.mesh.proofs.Laws.Link.Keys.{key-mem}
 use Rattle.mesh.proofs.Laws.Boundary.Order.{same-sound}

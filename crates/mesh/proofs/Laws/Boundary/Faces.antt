@@ -15,7 +15,7 @@ use Rattle.mesh.specs.Words.{wordAt}
 use Rattle.mesh.specs.Tests.{every}
 use Rattle.mesh.specs.Element.{tet, tets, faceOf}
 use Rattle.mesh.specs.Boundary.{allFaces}
-use Rattle.mesh.specs.Surface.{faceAt, faceRow, numbers, faceRows}
+use Rattle.mesh.specs.inside.Surface.{faceAt, faceRow, numbers, faceRows}
 use Rattle.mesh.proofs.Laws.Bools.{and-intro, and-left, and-right}
 
 -- ---- maps

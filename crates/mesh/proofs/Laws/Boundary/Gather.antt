@@ -12,9 +12,11 @@ use Rattle.mesh.specs.declared.element.Triple.{Triple}
 use Rattle.mesh.specs.declared.boundary.Outcome.{Outcome}
 use Rattle.mesh.specs.declared.boundary.Outcome.the-variants.{Surface, Refused}
 use Rattle.mesh.specs.Tests.{every}
-use Rattle.mesh.specs.Rows.{rows, flat}
+use Rattle.mesh.specs.inside.Rows.{rows}
+use Rattle.mesh.specs.Words.{flat}
 use Rattle.mesh.specs.Element.{parityOf, cornersOf}
-use Rattle.mesh.specs.Surface.{answer, faceAt, faceIn, kind, badRun, lone, sameKey, sameParity, kindAt, faceArea, FaceArea, gathered, Gathered}
+use Rattle.mesh.specs.Surface.{answer}
+use Rattle.mesh.specs.inside.Surface.{faceAt, faceIn, kind, badRun, lone, sameKey, sameParity, kindAt, faceArea, FaceArea, gathered, Gathered}
 use Rattle.mesh.proofs.Laws.Bools.{and-left, and-right}
 use Rattle.mesh.proofs.Laws.Rows.{length-rows}
 use Rattle.mesh.proofs.Laws.Boundary.Kinds.{single-bad, single-lone, couple-bad, couple-lone, couple-two, bad-number, bad-lone, kind-known}

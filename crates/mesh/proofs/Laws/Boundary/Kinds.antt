@@ -9,7 +9,7 @@ use lib.Dec.{eqb}
 use lib.ListN.{length}
 use borrow.Author.Tests.{ne-eqb}
 use Rattle.mesh.specs.Tests.{every}
-use Rattle.mesh.specs.Surface.{kind, badRun, lone}
+use Rattle.mesh.specs.inside.Surface.{kind, badRun, lone}
 use Rattle.mesh.proofs.Laws.Bools.{and-left, and-right}
 
 module _ {A : Type 0} (same level : A → A → Bool) where

@@ -12,11 +12,12 @@ use lib.ListN.{length}
 use borrow.Author.Tests.{eq-eqb, ne-eqb}
 use Rattle.mesh.specs.declared.element.Tet.{Tet}
 use Rattle.mesh.specs.declared.element.Triple.{Triple}
-use Rattle.mesh.specs.Sort.{sort, elem}
+use Rattle.mesh.specs.Sort.{sort}
+use Rattle.mesh.specs.inside.Sort.{elem}
 use Rattle.mesh.specs.Complex.{keep}
 use Rattle.mesh.specs.Element.{keyOf, parityOf}
 use Rattle.mesh.specs.Boundary.{sameTriple, leTriple, allFaces, withKey, keyNumber, firstNumber, boundaryNumber, singles, boundaryOf}
-use Rattle.mesh.specs.Surface.{OneOrTwo, one, two}
+use Rattle.mesh.specs.inside.Surface.{OneOrTwo, one, two}
 use Rattle.mesh.proofs.Laws.Bools.{clash}
 use Rattle.mesh.proofs.Laws.Sort.{length-sort, elem-sort}
 use Rattle.mesh.proofs.Laws.Boundary.Order.{same-refl, same-sound}

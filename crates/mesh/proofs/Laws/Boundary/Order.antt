@@ -10,8 +10,9 @@ use lib.Dec.{ltb, eqb}
 use borrow.Author.Tests.{ltb-true, eqb-true, eq-eqb}
 use Rattle.mesh.specs.declared.element.Triple.{Triple}
 use Rattle.mesh.specs.Element.{triple, cornersOf}
-use Rattle.mesh.specs.Sort.{insert, sort, ordered, count}
-use Rattle.mesh.specs.Rows.{leRow, eqRow}
+use Rattle.mesh.specs.Sort.{insert, sort}
+use Rattle.mesh.specs.inside.Sort.{ordered, count}
+use Rattle.mesh.specs.inside.Rows.{leRow, eqRow}
 use Rattle.mesh.specs.Boundary.{sameTriple, leTriple}
 use Rattle.mesh.proofs.Laws.Bools.{split, clash, and-left, and-right}
 use Rattle.mesh.proofs.Laws.Sort.{sort-same, sorted-unique}

@@ -10,9 +10,9 @@ use lib.ListN.{take, drop, getD}
 use lib.Seq.{drop-drop, take-take, getD-take, getD-drop}
 use borrow.Author.Tests.{eq-eqb, ne-eqb}
 use Rattle.mesh.specs.declared.element.Triple.{Triple}
-use Rattle.mesh.specs.Rows.{rows, eqRow}
+use Rattle.mesh.specs.inside.Rows.{rows, eqRow}
 use Rattle.mesh.specs.Element.{parityOf}
-use Rattle.mesh.specs.Surface.{faceAt, kind, sameKey, sameParity, kindAt}
+use Rattle.mesh.specs.inside.Surface.{faceAt, kind, sameKey, sameParity, kindAt}
 use Rattle.mesh.proofs.Laws.Boundary.Kinds.{kind-other, kind-three, kind-pair, kind-pair-more}
 
 -- the row at p

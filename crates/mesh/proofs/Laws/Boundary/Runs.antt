@@ -10,10 +10,11 @@ use lib.ListN.{length}
 use borrow.Author.Tests.{ne-eqb}
 use Rattle.mesh.specs.declared.element.Triple.{Triple}
 use Rattle.mesh.specs.Element.{keyOf, parityOf}
-use Rattle.mesh.specs.Sort.{insert, sort, headed, ordered}
+use Rattle.mesh.specs.Sort.{insert, sort}
+use Rattle.mesh.specs.inside.Sort.{headed, ordered}
 use Rattle.mesh.specs.Complex.{keep}
 use Rattle.mesh.specs.Boundary.{sameTriple, leTriple, withKey, keyNumber, firstNumber, singles}
-use Rattle.mesh.specs.Surface.{kind, badRun, lone}
+use Rattle.mesh.specs.inside.Surface.{kind, badRun, lone}
 use Rattle.mesh.proofs.Laws.Bools.{clash, fails, and-left, and-right}
 use Rattle.mesh.proofs.Laws.Sort.{length-sort}
 use Rattle.mesh.proofs.Laws.Boundary.Order.{triple-trans, triple-anti, same-refl, same-sound, same-at, same-other, triples-same}

@@ -6,7 +6,8 @@ use mathlib.Core.List.{List, [], _∷_, map}
 use Prim.Native.Nat.{suc, _≤_}
 use native.Mathlib.Omega.{arith}
 use lib.ListN.{length}
-use Rattle.mesh.specs.Sort.{insert, sort, count}
+use Rattle.mesh.specs.Sort.{insert, sort}
+use Rattle.mesh.specs.inside.Sort.{count}
 use Rattle.mesh.specs.Complex.{keep}
 use Rattle.mesh.specs.Tests.{every}
 use Rattle.mesh.proofs.Laws.Bools.{and-intro, and-left, and-right}

@@ -9,11 +9,12 @@ use lib.Dec.{ltb}
 use lib.ListN.{length, getD}
 use Rattle.mesh.specs.declared.element.Triple.{Triple}
 use Rattle.mesh.specs.Tests.{every}
-use Rattle.mesh.specs.Sort.{sort, headed, ordered}
-use Rattle.mesh.specs.Rows.{leRow}
+use Rattle.mesh.specs.Sort.{sort}
+use Rattle.mesh.specs.inside.Sort.{headed, ordered}
+use Rattle.mesh.specs.inside.Rows.{leRow}
 use Rattle.mesh.specs.Element.{tets, keyOf}
 use Rattle.mesh.specs.Boundary.{sameTriple, leTriple, allFaces, firstNumber, boundaryNumber, singles, boundaryOf}
-use Rattle.mesh.specs.Surface.{faceAt, faceRow, numbers, faceRows, badRun, lone, sameKey, faceIn, sameParity, faceArea, gathered}
+use Rattle.mesh.specs.inside.Surface.{faceAt, faceRow, numbers, faceRows, badRun, lone, sameKey, faceIn, sameParity, faceArea, gathered}
 use Rattle.mesh.proofs.Laws.Bools.{and-intro, and-left, and-right}
 use Rattle.mesh.proofs.Laws.Sort.{ordered-sort, length-sort}
 use Rattle.mesh.proofs.Laws.Rows.{leRow-total}

@@ -14,13 +14,14 @@ use Rattle.mesh.specs.declared.element.Tet.{Tet}
 use Rattle.mesh.specs.declared.element.Triple.{Triple}
 use Rattle.mesh.specs.declared.boundary.Outcome.{Outcome}
 use Rattle.mesh.specs.declared.boundary.Outcome.the-variants.{Surface, Refused}
-use Rattle.mesh.specs.Words.{zeroWords}
+use Rattle.mesh.specs.Words.{zeroWords, flat}
 use Rattle.mesh.specs.Sort.{sort}
-use Rattle.mesh.specs.Rows.{rows, flat, leRow, fitRows, sortedArea}
+use Rattle.mesh.specs.inside.Rows.{rows, leRow, fitRows, sortedArea}
 use Rattle.mesh.specs.Element.{tets, cornersOf}
 use Rattle.mesh.specs.Boundary.{leTriple, boundaryNumber, boundaryOf}
-use Rattle.mesh.specs.Surface.{answer, triplesOf, answerOf, surfaceWords, areaFits, Filled, areaAfter, boundaryIn, faceRows, faceArea, FaceArea, gathered, Gathered}
-use Rattle.mesh.specs.Faces.{FaceRoom, SortedFaces}
+use Rattle.mesh.specs.Surface.{answer, triplesOf, answerOf, surfaceWords}
+use Rattle.mesh.specs.inside.Surface.{areaFits, Filled, areaAfter, boundaryIn, faceRows, faceArea, FaceArea, gathered, Gathered}
+use Rattle.mesh.specs.inside.Faces.{FaceRoom, SortedFaces}
 use Rattle.mesh.proofs.Laws.Bools.{and-intro, and-left, and-right}
 use Rattle.mesh.proofs.Laws.Complex.Sets.{split}
 use Rattle.mesh.proofs.Laws.Rows.{Shape, none, more, rows-flat, rows-words}

@@ -11,7 +11,8 @@ use borrow.Author.Tests.{le-leb, lt-leb}
 use Rattle.mesh.specs.declared.element.Triple.{Triple}
 use Rattle.mesh.specs.Words.{wordAt}
 use Rattle.mesh.specs.Element.{tet, faceOf, keyOf}
-use Rattle.mesh.specs.Surface.{areaFits, callFits, faceAt, faceRow}
+use Rattle.mesh.specs.Surface.{callFits}
+use Rattle.mesh.specs.inside.Surface.{areaFits, faceAt, faceRow}
 
 -- ---- room
 

@@ -9,8 +9,10 @@ use native.Mathlib.Omega.{arith}
 use borrow.Author.Tests.{eqb-true, eqb-false, eq-eqb, ne-eqb, not-true}
 use lib.Dec.{eqb}
 use lib.ListN.{length, length-map}
-use Rattle.mesh.specs.Complex.{mem, sub, within, keep, star, upTo, faces, Nodup, Sub, IsElement, Proper, SameCount}
-use Rattle.mesh.specs.Moves.{onto, collapse, Collapsible}
+use Rattle.mesh.specs.Complex.{mem, sub, within, keep, upTo, faces, Nodup, Sub}
+use Rattle.mesh.specs.inside.Complex.{star, IsElement, Proper, SameCount}
+use Rattle.mesh.specs.inside.Moves.{collapse, Collapsible}
+use Rattle.mesh.specs.Feature.{onto}
 use Rattle.mesh.proofs.Laws.Complex.Sets.{split, clash, nope, same, or-cases, or-left, or-right, and-fst, and-snd, mem-here, mem-there, mem-cases, mem-nil, out, out-head, apart, Sub-cons, Sub-both, Sub-tail, sub-elim, sub-intro, within-elim, within-intro, within-mono, rm, rm-out, rm-mem, rm-sub, rm-length, rm-nodup, short}
 use Rattle.mesh.proofs.Laws.Complex.Sums.{bit, total, ind, total-cong, total-add, total-zero, faces-total, Sym, Sym-ind, first, first-head}
 use Rattle.mesh.proofs.Laws.Complex.Lists.{keep-elim, keep-intro, map-elim, map-intro}

@@ -5,9 +5,10 @@ use mathlib.Core.Bool.{true, false}
 use mathlib.Core.List.{List, [], _∷_}
 use Prim.Native.Nat.{ℕ}
 use native.Mathlib.Omega.{arith}
-use Rattle.mesh.specs.Complex.{faces, star, Proper, SameCount}
-use Rattle.mesh.specs.Moves.{collapse, flip23, Flippable23, Flippable32}
-use Rattle.mesh.specs.Tests.{mayCollapse, isProper}
+use Rattle.mesh.specs.Complex.{faces}
+use Rattle.mesh.specs.inside.Complex.{star, Proper, SameCount}
+use Rattle.mesh.specs.inside.Moves.{collapse, flip23, Flippable23, Flippable32}
+use Rattle.mesh.specs.inside.Tests.{mayCollapse, isProper}
 use Rattle.mesh.proofs.Laws.Complex.Collapse.{collapse-count}
 use Rattle.mesh.proofs.Laws.Complex.Tests.{mayCollapse-sound, isProper-sound}
 

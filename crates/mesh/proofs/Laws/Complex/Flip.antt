@@ -9,8 +9,9 @@ use native.Mathlib.Omega.{arith}
 use borrow.Author.Tests.{eqb-true, ne-eqb, not-true}
 use lib.Dec.{eqb}
 use lib.ListN.{length}
-use Rattle.mesh.specs.Complex.{mem, sub, within, keep, star, upTo, faces, Nodup, Sub, IsElement, Proper, SameCount, SameComplex}
-use Rattle.mesh.specs.Moves.{flip23, flip32, Flippable23, Flippable32}
+use Rattle.mesh.specs.Complex.{mem, sub, within, keep, upTo, faces, Nodup, Sub}
+use Rattle.mesh.specs.inside.Complex.{star, IsElement, Proper, SameCount, SameComplex}
+use Rattle.mesh.specs.inside.Moves.{flip23, flip32, Flippable23, Flippable32}
 use Rattle.mesh.proofs.Laws.Complex.Sets.{split, clash, nope, or-left, or-right, mem-here, mem-there, mem-cases, mem-nil, out, out-head, out-tail, apart, Sub-cons, Sub-both, sub-elim, sub-intro, within-elim, within-intro, within-mono, rm, rm-out, rm-mem, rm-sub, rm-nodup}
 use Rattle.mesh.proofs.Laws.Complex.Sums.{bit, total, ind, total-cong, total-add, total-zero, faces-total, Sym, Sym-ind, first, first-head}
 use Rattle.mesh.proofs.Laws.Complex.Lists.{keep-elim, keep-intro, three-pass, four-pass}

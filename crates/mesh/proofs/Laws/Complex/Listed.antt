@@ -6,7 +6,8 @@ use mathlib.Core.List.{List, [], _∷_, List·Memᴰ}
 use Prim.Native.Nat.{ℕ, _+_}
 use native.Mathlib.Omega.{arith}
 use lib.ListN.{length}
-use Rattle.mesh.specs.Complex.{sub, within, upTo, faces, Nodup, Listed}
+use Rattle.mesh.specs.Complex.{sub, within, upTo, faces, Nodup}
+use Rattle.mesh.specs.inside.Complex.{Listed}
 use Rattle.mesh.proofs.Laws.Complex.Sets.{clash, same, sub-elim, within-elim, within-mono, full}
 use Rattle.mesh.proofs.Laws.Complex.Sums.{bit, total, ind, total-cong, total-add, total-none, faces-total}
 use Rattle.mesh.proofs.Laws.Complex.Tets.{upTo-mem, upTo-nodup, one, bit-or}

@@ -8,8 +8,9 @@ use Prim.Native.Nat.{ℕ, zero, suc, _+_}
 use native.Mathlib.Omega.{arith}
 use borrow.Author.Tests.{eq-eqb}
 use lib.ListN.{length, length-map}
-use Rattle.mesh.specs.Complex.{mem, within, keep, upTo, faces, Nodup, Sub, Proper, SameCount}
-use Rattle.mesh.specs.Moves.{Renumbers, renumber}
+use Rattle.mesh.specs.Complex.{mem, within, keep, upTo, faces, Nodup, Sub}
+use Rattle.mesh.specs.inside.Complex.{Proper, SameCount}
+use Rattle.mesh.specs.inside.Moves.{Renumbers, renumber}
 use Rattle.mesh.proofs.Laws.Complex.Sets.{split, clash, nope, same, or-left, and-snd, mem-here, mem-there, mem-cases, mem-nil, out, apart, Sub-cons, within-elim, within-intro, within-mono, rm, rm-out, rm-mem, rm-sub, rm-nodup, keep-mem, keep-nodup}
 use Rattle.mesh.proofs.Laws.Complex.Lists.{map-elim, map-intro}
 use Rattle.mesh.proofs.Laws.Complex.Sums.{bit, total, ind, total-cong, total-zero, faces-total, Sym, Sym-ind, Sym-cons, Sym-swap, first}

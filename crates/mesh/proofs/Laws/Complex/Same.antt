@@ -7,7 +7,8 @@ use mathlib.Core.List.{List, [], _∷_, List·Memᴰ, List·Memᴰ·head, List·
 use Prim.Native.Nat.{ℕ, suc, _+_, _≤_}
 use native.Mathlib.Omega.{arith}
 use lib.ListN.{length}
-use Rattle.mesh.specs.Complex.{sub, within, keep, upTo, faces, IsElement, Proper, SameCount, SameComplex}
+use Rattle.mesh.specs.Complex.{sub, within, keep, upTo, faces}
+use Rattle.mesh.specs.inside.Complex.{IsElement, Proper, SameCount, SameComplex}
 use Rattle.mesh.proofs.Laws.Complex.Sets.{split, clash, same, or-cases, or-right, sub-elim, within-elim, within-intro, within-mono}
 use Rattle.mesh.proofs.Laws.Complex.Lists.{keep-elim}
 use Rattle.mesh.proofs.Laws.Complex.Sums.{bit, total, ind, total-cong, total-add, faces-total}

@@ -9,7 +9,8 @@ use native.Mathlib.Omega.{arith}
 use borrow.Author.Tests.{eqb-true, eq-eqb, ne-eqb}
 use lib.Dec.{eqb}
 use lib.ListN.{length}
-use Rattle.mesh.specs.Complex.{mem, sub, within, star, keep, Nodup, Sub}
+use Rattle.mesh.specs.Complex.{mem, sub, within, keep, Nodup, Sub}
+use Rattle.mesh.specs.inside.Complex.{star}
 pub use Rattle.mesh.proofs.Laws.Bools.{split}
 
 pub clash : {b : Bool} → b ≡ true → b ≡ false → ⊥

@@ -9,8 +9,9 @@ use borrow.Author.Tests.{ltb-true, ltb-false, lt-ltb, le-ltb}
 use lib.Dec.{ltb}
 use lib.IntN.{pos, negsuc, subℕ}
 use lib.ListN.{length}
-use Rattle.mesh.specs.Complex.{faces, Proper, SameCount, alternating}
-use Rattle.mesh.specs.Moves.{Step, collapses, flips23, flips32, renumbers, reorders, Run, start, then}
+use Rattle.mesh.specs.Complex.{faces, alternating}
+use Rattle.mesh.specs.inside.Complex.{Proper, SameCount}
+use Rattle.mesh.specs.inside.Moves.{Step, collapses, flips23, flips32, renumbers, reorders, Run, start, then}
 use Rattle.mesh.proofs.Laws.Complex.Sets.{split}
 use Rattle.mesh.proofs.Laws.Complex.Collapse.{collapse-proper, collapse-count}
 use Rattle.mesh.proofs.Laws.Complex.Flip.{flip23-proper, flip23-count, flip32-proper, flip32-count}

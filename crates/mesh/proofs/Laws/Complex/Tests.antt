@@ -9,9 +9,11 @@ use native.Mathlib.Omega.{arith}
 use borrow.Author.Tests.{ltb-true, eqb-true, eqb-false, eq-eqb, ne-eqb, not-true}
 use lib.Dec.{eqb, ltb}
 use lib.ListN.{length}
-use Rattle.mesh.specs.Complex.{mem, within, star, Nodup, Sub, Proper}
-use Rattle.mesh.specs.Moves.{Collapsible}
-use Rattle.mesh.specs.Tests.{every, isNil, others, common, linked, guarded, mayCollapse, nodup, under, isProper}
+use Rattle.mesh.specs.Complex.{mem, within, Nodup, Sub}
+use Rattle.mesh.specs.inside.Complex.{star, Proper}
+use Rattle.mesh.specs.inside.Moves.{Collapsible}
+use Rattle.mesh.specs.Tests.{every, nodup, under}
+use Rattle.mesh.specs.inside.Tests.{isNil, others, common, linked, guarded, mayCollapse, isProper}
 use Rattle.mesh.proofs.Laws.Complex.Sets.{clash, or-cases, and-fst, and-snd, mem-here, mem-there, mem-nil, out, apart, Sub-cons, Sub-both, within-elim, within-intro, within-mono, keep-mem, mem-cases, star-alike}
 use Rattle.mesh.proofs.Laws.Complex.Collapse.{star-some}
 use Rattle.mesh.proofs.Laws.Complex.Tets.{tet-of, whole}

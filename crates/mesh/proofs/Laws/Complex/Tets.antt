@@ -7,7 +7,8 @@ use mathlib.Core.List.{List, [], _∷_, List·Memᴰ, List·Memᴰ·head, List·
 use Prim.Native.Nat.{ℕ, zero, suc, _+_, _≤_, _<_}
 use native.Mathlib.Omega.{arith}
 use lib.ListN.{length}
-use Rattle.mesh.specs.Complex.{mem, sub, within, upTo, faces, Nodup, Sub, IsElement, Proper}
+use Rattle.mesh.specs.Complex.{mem, sub, within, upTo, faces, Nodup, Sub}
+use Rattle.mesh.specs.inside.Complex.{IsElement, Proper}
 use Rattle.mesh.proofs.Laws.Complex.Sets.{split, clash, nope, same, mem-here, mem-there, mem-cases, mem-nil, apart, sub-elim, sub-intro, within-elim, rm, rm-out, rm-mem, rm-sub, rm-length, rm-nodup, short, full}
 use Rattle.mesh.proofs.Laws.Complex.Sums.{bit, total, ind, total-cong, total-add, total-zero, total-none, faces-total}
 

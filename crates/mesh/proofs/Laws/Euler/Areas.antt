@@ -14,13 +14,13 @@ use borrow.Rule.Slice.PartMut.{midOf, putMid}
 use Rattle.mesh.specs.declared.element.Pair.{Pair}
 use Rattle.mesh.specs.declared.element.Triple.{Triple}
 use Rattle.mesh.specs.declared.element.Tet.{Tet}
-use Rattle.mesh.specs.Words.{wordAt, zeroWords}
+use Rattle.mesh.specs.Words.{wordAt, zeroWords, flat}
 use Rattle.mesh.specs.Sort.{unique}
-use Rattle.mesh.specs.Rows.{rows, flat, eqRow, fitRows, sortedArea, uniqueRows, uniqueArea}
+use Rattle.mesh.specs.inside.Rows.{rows, eqRow, fitRows, sortedArea, uniqueRows, uniqueArea}
 use Rattle.mesh.specs.Element.{pair, tets, faceOf, keyOf, cornersOf, verticesOf}
-use Rattle.mesh.specs.Intake.{tetAt}
+use Rattle.mesh.specs.inside.Intake.{tetAt}
 use Rattle.mesh.specs.Group.{numbers}
-use Rattle.mesh.specs.Manifold.{filled, KeptBelow}
+use Rattle.mesh.specs.inside.Manifold.{filled, KeptBelow}
 use Rattle.mesh.proofs.Laws.Bools.{and-intro, and-left, and-right}
 use Rattle.mesh.proofs.Laws.Parts.{paste-part, tail-mid, tail-put}
 use Rattle.mesh.proofs.Laws.Rows.{rows-words}
@@ -29,7 +29,7 @@ use Rattle.mesh.proofs.Laws.Intake.Reads.{length-tets}
 use Rattle.mesh.proofs.Laws.Manifold.Fill.{fill-front, fill-turn, fill-kept, filled-rows}
 use Rattle.mesh.proofs.Laws.Manifold.Growth.{kept-both}
 use Rattle.mesh.proofs.Laws.Manifold.Steps.{word-below, put-kept, sort-kept, sort-from-rows}
-use Rattle.mesh.specs.Euler.{endsAt, risingRow, vertexRows, edgeRows, triangleRows, spread, different, countsOf, countFits, Counted, countedIn, edgeRowAt, triangleRowAt}
+use Rattle.mesh.specs.inside.Euler.{endsAt, risingRow, vertexRows, edgeRows, triangleRows, spread, different, countsOf, countFits, Counted, countedIn, edgeRowAt, triangleRowAt}
 
 -- ---- elements that are kept
 

@@ -11,9 +11,11 @@ use lib.Dec.{leb}
 use lib.IntN.{subℕ}
 use lib.ListN.{length, length-map}
 use Rattle.mesh.specs.declared.element.Tet.{Tet}
-use Rattle.mesh.specs.Sort.{sort, unique, before, headed, ordered, elem}
-use Rattle.mesh.specs.Rows.{leRow, eqRow}
-use Rattle.mesh.specs.Complex.{mem, within, faces, alternating, Nodup, Proper, Listed}
+use Rattle.mesh.specs.Sort.{sort, unique}
+use Rattle.mesh.specs.inside.Sort.{before, headed, ordered, elem}
+use Rattle.mesh.specs.inside.Rows.{leRow, eqRow}
+use Rattle.mesh.specs.Complex.{mem, within, faces, alternating, Nodup}
+use Rattle.mesh.specs.inside.Complex.{Proper, Listed}
 use Rattle.mesh.specs.Element.{verticesOf}
 use Rattle.mesh.proofs.Laws.Bools.{clash, fails, and-left, and-right}
 use Rattle.mesh.proofs.Laws.Sort.{length-sort}
@@ -24,7 +26,7 @@ use Rattle.mesh.proofs.Laws.Complex.Tets.{tet-of}
 use Rattle.mesh.proofs.Laws.Complex.Listed.{faces-listed}
 use Rattle.mesh.proofs.Laws.Link.Simplices.{rising, rising-nodup, rising-unique, sort-mem, sort-rising}
 use Rattle.mesh.proofs.Laws.Link.Keys.{proper-fours}
-use Rattle.mesh.specs.Euler.{vertexRows, edgeRows, triangleRows, spread, different, countsOf, alternatingOf}
+use Rattle.mesh.specs.inside.Euler.{vertexRows, edgeRows, triangleRows, spread, different, countsOf, alternatingOf}
 use Rattle.mesh.proofs.Laws.Euler.Simplices.{Simplex, Lists, vertices-listed, edges-listed, triangles-listed}
 
 -- ---- members

@@ -16,7 +16,7 @@ use Rattle.mesh.specs.Element.{pair, triple, facesOf, keyOf, cornersOf, 
 use Rattle.mesh.proofs.Laws.Complex.Sets.{split, clash, mem-here, mem-there, mem-cases, mem-nil, out-head, out-tail, short, full}
 use Rattle.mesh.proofs.Laws.Link.Simplices.{rising, rising-head, rising-nodup, rising-unique}
 use Rattle.mesh.proofs.Laws.Link.Keys.{key-mem, key-rising, face-nodup}
-use Rattle.mesh.specs.Euler.{endsOf, risingRow, vertexRows, edgeRows, triangleRows}
+use Rattle.mesh.specs.inside.Euler.{endsOf, risingRow, vertexRows, edgeRows, triangleRows}
 
 -- a rising list of k vertices of an element
 pub record Simplex (k : ℕ) (e σ : List ℕ) : Type 0 where

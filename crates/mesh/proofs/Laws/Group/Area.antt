@@ -13,18 +13,18 @@ use Rattle.geometry.specs.declared.point.Point.{Point}
 use Rattle.geometry.specs.declared.bounds.Options.{Options}
 use Rattle.geometry.specs.declared.bounds.Ranks.{Ranks}
 use Rattle.geometry.specs.Rank.{rank}
-use Rattle.mesh.specs.Words.{zeroPoint, pointsOf, zeroWords}
+use Rattle.mesh.specs.Words.{zeroPoint, pointsOf, zeroWords, flat}
 use Rattle.mesh.specs.Sort.{sort}
-use Rattle.mesh.specs.Rows.{rows, flat, leRow, fitRows, sortedArea}
-use Rattle.mesh.specs.Intake.{pointIn}
+use Rattle.mesh.specs.inside.Rows.{rows, leRow, fitRows, sortedArea}
+use Rattle.mesh.specs.inside.Intake.{pointIn}
 use Rattle.mesh.specs.Group.{numbers, rankOf}
-use Rattle.mesh.specs.Manifold.{filled}
+use Rattle.mesh.specs.inside.Group.{groupRow, groupRows, groupFits, groupedArea, groupRowAt}
+use Rattle.mesh.specs.inside.Manifold.{filled}
 use Rattle.mesh.proofs.Laws.Bools.{and-left, and-right}
 use Rattle.mesh.proofs.Laws.Rows.{rows-flat, shape-sort}
 use Rattle.mesh.proofs.Laws.Areas.{area-is}
 use Rattle.mesh.proofs.Laws.Intake.Reads.{length-points, points-at}
 use Rattle.mesh.proofs.Laws.Manifold.Fill.{fill-turn, fill-kept, filled-rows, filled-rest, shape-numbered}
-use Rattle.mesh.specs.Group.{groupRow, groupRows, groupFits, groupedArea, groupRowAt}
 
 -- ---- room
 

@@ -4,7 +4,8 @@ use mathlib.Core.Logic.{inl, inr}
 use mathlib.Core.Bool.{Bool, true, false, cond}
 use mathlib.Core.List.{List, [], _∷_, map}
 use Prim.Native.Nat.{ℕ, suc}
-use Rattle.mesh.specs.Sort.{insert, sort, headed, ordered, count, uniqueAfter, unique}
+use Rattle.mesh.specs.Sort.{insert, sort, uniqueAfter, unique}
+use Rattle.mesh.specs.inside.Sort.{headed, ordered, count}
 use Rattle.mesh.proofs.Laws.Bools.{split, and-intro, and-left, and-right}
 
 module _ {A B : Type 0} (f : A → B) where

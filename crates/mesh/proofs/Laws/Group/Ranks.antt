@@ -8,10 +8,10 @@ use native.Mathlib.Omega.{arith}
 use lib.Dec.{eqb, ltb, leb}
 use borrow.Author.Tests.{lt-ltb, le-ltb, ltb-true, ltb-false, eq-eqb, ne-eqb, eqb-true, eqb-false, le-leb, lt-leb}
 use Rattle.geometry.specs.declared.bounds.Ranks.{Ranks}
-use Rattle.mesh.specs.Rows.{leRow, eqRow}
+use Rattle.mesh.specs.inside.Rows.{leRow, eqRow}
 use Rattle.mesh.specs.Group.{sameRanks, leRanks}
 use Rattle.mesh.proofs.Laws.Bools.{split}
-use Rattle.mesh.specs.Group.{rankWords}
+use Rattle.mesh.specs.inside.Group.{rankWords}
 
 -- ---- one number as two words
 

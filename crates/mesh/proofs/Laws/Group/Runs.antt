@@ -15,16 +15,16 @@ use Rattle.geometry.specs.declared.bounds.Ranks.{Ranks}
 use Rattle.geometry.specs.Rank.{rank}
 use Rattle.mesh.specs.Words.{pointAt, zeroPoint}
 use Rattle.mesh.specs.Sort.{sort, unique}
-use Rattle.mesh.specs.Rows.{leRow, eqRow}
+use Rattle.mesh.specs.inside.Rows.{leRow, eqRow}
 use Rattle.mesh.specs.Complex.{keep}
-use Rattle.mesh.specs.Group.{runs, sameFirst, numbers, sameRanks, leRanks, rankOf, ofRank, groupOf, groups}
+use Rattle.mesh.specs.Group.{numbers, sameRanks, leRanks, rankOf, ofRank, groupOf, groups}
+use Rattle.mesh.specs.inside.Group.{runs, sameFirst, rankWords, groupRow, vertexIn, groupRows}
 use Rattle.mesh.proofs.Laws.Sort.{ordered-sort}
 use Rattle.mesh.proofs.Laws.Rows.{leRow-total, leRow-take, eqRow-sound}
 use Rattle.mesh.proofs.Laws.SortedRows.{sorted-rows-unique}
 use Rattle.mesh.proofs.Laws.Link.Members.{keep-same}
 use Rattle.mesh.proofs.Laws.Manifold.Kept.{Steady, none, more}
 use Rattle.mesh.proofs.Laws.Manifold.RowRuns.{sorted-runs, kept-steady}
-use Rattle.mesh.specs.Group.{rankWords, groupRow, vertexIn, groupRows}
 use Rattle.mesh.proofs.Laws.Group.Images.{sort-map, unique-map, ordered-map, count-sort-map, map-map, map-same}
 use Rattle.mesh.proofs.Laws.Group.Ranks.{le-ranks, eq-ranks}
 use Rattle.mesh.proofs.Laws.Numbers.{eqb-swap}

@@ -12,11 +12,12 @@ use lib.ListN.{length, take, drop, getD, replicate, length-append, length-drop, 
 use lib.Seq.{length-take-le, take-all, take-suc, take-at, drop-at, drop-drop, paste}
 use borrow.Author.Tests.{le-leb}
 use Rattle.mesh.specs.declared.element.Tet.{Tet}
-use Rattle.mesh.specs.Sort.{sort, headed, ordered}
-use Rattle.mesh.specs.Rows.{rows, flat, leRow, eqRow, fitRows, sortedArea}
-use Rattle.mesh.specs.Words.{zeroWords}
+use Rattle.mesh.specs.Sort.{sort}
+use Rattle.mesh.specs.inside.Sort.{headed, ordered}
+use Rattle.mesh.specs.inside.Rows.{rows, leRow, eqRow, fitRows, sortedArea}
+use Rattle.mesh.specs.Words.{flat, zeroWords}
 use Rattle.mesh.specs.Element.{tet, tets, verticesOf}
-use Rattle.mesh.specs.Intake.{tetAt, vertexRow, noneTwice}
+use Rattle.mesh.specs.inside.Intake.{tetAt, vertexRow, noneTwice}
 use Rattle.mesh.proofs.Laws.Sort.{length-sort}
 use Rattle.mesh.proofs.Laws.Rows.{Shape, none, more, rows-flat, length-flat, shape-sort}
 use Rattle.mesh.proofs.Laws.Areas.{area-is, rows-sorted}

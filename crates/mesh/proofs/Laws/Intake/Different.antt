@@ -7,12 +7,14 @@ use Prim.Native.Nat.{ℕ, suc}
 use lib.Dec.{eqb, leb}
 use borrow.Author.Tests.{eq-eqb, eqb-true}
 use Rattle.mesh.specs.declared.element.Tet.{Tet}
-use Rattle.mesh.specs.Sort.{sort, count, elem}
-use Rattle.mesh.specs.Rows.{leRow, eqRow}
+use Rattle.mesh.specs.Sort.{sort}
+use Rattle.mesh.specs.inside.Sort.{count, elem}
+use Rattle.mesh.specs.inside.Rows.{leRow, eqRow}
 use Rattle.mesh.specs.Complex.{mem, sub, Sub}
 use Rattle.mesh.specs.Tests.{every, nodup, under}
 use Rattle.mesh.specs.Element.{verticesOf}
-use Rattle.mesh.specs.Intake.{wellNumbered, sameVertices, allDifferent, vertexRow, noneTwice}
+use Rattle.mesh.specs.Intake.{wellNumbered, sameVertices, allDifferent}
+use Rattle.mesh.specs.inside.Intake.{vertexRow, noneTwice}
 use Rattle.mesh.proofs.Laws.Bools.{and-intro, and-left, and-right}
 use Rattle.mesh.proofs.Laws.Sort.{sort-same}
 use Rattle.mesh.proofs.Laws.Rows.{leRow-total, leRow-trans, leRow-anti, eqRow-refl, eqRow-sound}

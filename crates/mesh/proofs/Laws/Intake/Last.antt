@@ -15,7 +15,8 @@ use Rattle.mesh.specs.declared.boundary.Outcome.the-variants.{Surface, R
 use Rattle.mesh.specs.Words.{zeroWords}
 use Rattle.mesh.specs.Element.{tets}
 use Rattle.mesh.specs.Boundary.{boundaryNumber, boundaryOf}
-use Rattle.mesh.specs.Surface.{answer, answerOf, areaFits, Filled, boundaryIn}
+use Rattle.mesh.specs.Surface.{answer, answerOf}
+use Rattle.mesh.specs.inside.Surface.{areaFits, Filled, boundaryIn}
 use Rattle.mesh.specs.Intake.{refusalOf}
 use Rattle.mesh.proofs.Laws.Bools.{and-intro}
 use Rattle.mesh.proofs.Laws.Boundary.Faces.{tets-kept}

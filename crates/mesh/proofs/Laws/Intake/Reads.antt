@@ -12,7 +12,7 @@ use Rattle.geometry.specs.Float.{zero64}
 use Rattle.mesh.specs.declared.element.Tet.{Tet}
 use Rattle.mesh.specs.Words.{wordAt, floatAt, zeroPoint, pointAt, pointsOf}
 use Rattle.mesh.specs.Element.{tet, tets}
-use Rattle.mesh.specs.Intake.{tetAt, pointIn}
+use Rattle.mesh.specs.inside.Intake.{tetAt, pointIn}
 
 -- ---- past the end
 

@@ -21,7 +21,8 @@ use Rattle.mesh.specs.Tests.{every}
 use Rattle.mesh.specs.Words.{zeroWords, pointsOf}
 use Rattle.mesh.specs.Element.{tets}
 use Rattle.mesh.specs.Boundary.{boundaryNumber}
-use Rattle.mesh.specs.Intake.{Given, tooMany, tooShort, optionsIn, fieldsIn, sizedPoint, inBox, wellNumbered, allDifferent, upright, intake, intakeNumbers, settingsNumber, meshNumber, givenOf}
+use Rattle.mesh.specs.Intake.{Given, tooMany, tooShort, optionsIn, fieldsIn, sizedPoint, inBox, wellNumbered, allDifferent, upright, intake, givenOf}
+use Rattle.mesh.specs.inside.Intake.{intakeNumbers, settingsNumber, meshNumber}
 use Rattle.mesh.proofs.Laws.Bools.{clash}
 use Rattle.mesh.proofs.Laws.Intake.Chains.{neither-left, neither-right}
 use Rattle.mesh.proofs.Laws.Intake.Room.{counts-few}

@@ -2,7 +2,8 @@
 use mathlib.Core.Path.{_≡_, refl, sym, ap, ap₂, subst, _∙_}
 use mathlib.Core.Bool.{Bool, true, false, cond, not, _&&_, _||_}
 use mathlib.Core.List.{List, [], _∷_}
-use Rattle.mesh.specs.Sort.{insert, sort, headed, ordered, elem}
+use Rattle.mesh.specs.Sort.{insert, sort}
+use Rattle.mesh.specs.inside.Sort.{headed, ordered, elem}
 use Rattle.mesh.proofs.Laws.Bools.{clash, fails, and-left, and-right}
 use Rattle.mesh.proofs.Laws.Sort.{elem-sort, ordered-sort, elem-insert}
 

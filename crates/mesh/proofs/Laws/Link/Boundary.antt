@@ -11,7 +11,8 @@ use lib.Dec.{eqb}
 use lib.ListN.{length}
 use Rattle.mesh.specs.declared.element.Tet.{Tet}
 use Rattle.mesh.specs.declared.element.Triple.{Triple}
-use Rattle.mesh.specs.Complex.{mem, within, keep, star, Nodup, Sub}
+use Rattle.mesh.specs.Complex.{mem, within, keep, Nodup, Sub}
+use Rattle.mesh.specs.inside.Complex.{star}
 use Rattle.mesh.specs.Sets.{times}
 use Rattle.mesh.specs.Element.{triple, facesOf, keyOf, verticesOf, cornersOf}
 use Rattle.mesh.specs.Boundary.{sameTriple, allFaces}

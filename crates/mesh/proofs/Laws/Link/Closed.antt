@@ -12,7 +12,8 @@ use lib.Dec.{eqb, leb}
 use lib.ListN.{length}
 use Rattle.mesh.specs.declared.element.Tet.{Tet}
 use Rattle.mesh.specs.declared.element.Triple.{Triple}
-use Rattle.mesh.specs.Complex.{mem, sub, within, keep, star, upTo, Nodup, Sub, IsElement, Proper}
+use Rattle.mesh.specs.Complex.{mem, sub, within, keep, upTo, Nodup, Sub}
+use Rattle.mesh.specs.inside.Complex.{star, IsElement, Proper}
 use Rattle.mesh.specs.Sort.{insert, sort}
 use Rattle.mesh.specs.Sets.{times}
 use Rattle.mesh.specs.Element.{triple, keyOf, verticesOf, cornersOf}
@@ -20,7 +21,7 @@ use Rattle.mesh.specs.Boundary.{sameTriple, leTriple, allFaces, withKey,
 use Rattle.mesh.specs.Link.{sameSimplex, boundaryAbout}
 use Rattle.mesh.specs.Tests.{every}
 use Rattle.mesh.specs.Feature.{bitsOf, shared, featureOk}
-use Rattle.mesh.specs.FeatureByMasks.{cornersIn, joined, outlives, onCurve, rimOk, curveOk, featureByMasks}
+use Rattle.mesh.specs.inside.FeatureByMasks.{cornersIn, joined, outlives, onCurve, rimOk, curveOk, featureByMasks}
 use Rattle.mesh.proofs.Laws.Complex.Sets.{split, clash, nope, same, and-fst, and-snd, mem-here, mem-there, mem-cases, mem-nil, out, apart, Sub-cons, sub-elim, sub-intro, keep-mem, keep-nodup, rm, rm-out, rm-mem, rm-sub, rm-none, rm-nodup, rm-length, short, full, star-alike}
 use Rattle.mesh.proofs.Laws.Complex.Sums.{bit}
 use Rattle.mesh.proofs.Laws.Complex.Tets.{upTo-mem, upTo-nodup, tet-of}

@@ -10,9 +10,8 @@ use lib.Dec.{eqb}
 use Rattle.mesh.specs.declared.element.Triple.{Triple}
 use Rattle.mesh.specs.Complex.{mem}
 use Rattle.mesh.specs.Element.{triple}
-use Rattle.mesh.specs.Moves.{onto}
+use Rattle.mesh.specs.Feature.{onto, Label, label, sameLabel, labels, features, threeApart, mapped, expected, neighbours, edgesOk, neighboursOk, featureOk}
 use Rattle.mesh.specs.Tests.{every}
-use Rattle.mesh.specs.Feature.{Label, label, sameLabel, labels, features, threeApart, mapped, expected, neighbours, edgesOk, neighboursOk, featureOk}
 use Rattle.mesh.proofs.Laws.Complex.Sets.{split, same, and-fst, and-snd, mem-here, mem-there, mem-cases, mem-nil}
 use Rattle.mesh.proofs.Laws.Link.Members.{Alike, Decides, kept-alike, every-alike, sameSet-alike}
 

@@ -11,7 +11,8 @@ use lib.Dec.{eqb, ltb}
 use lib.ListN.{length}
 use Rattle.mesh.specs.declared.element.Tet.{Tet}
 use Rattle.mesh.specs.declared.element.Triple.{Triple}
-use Rattle.mesh.specs.Complex.{mem, sub, keep, star, Nodup, Sub, Proper}
+use Rattle.mesh.specs.Complex.{mem, sub, keep, Nodup, Sub}
+use Rattle.mesh.specs.inside.Complex.{star, Proper}
 use Rattle.mesh.specs.Sets.{times}
 use Rattle.mesh.specs.Element.{triple, facesOf, sortFirst, sortLast, keyOf, verticesOf, cornersOf}
 use Rattle.mesh.specs.Boundary.{sameTriple, allFaces}

@@ -12,8 +12,7 @@ use lib.Dec.{eqb, leb}
 use Rattle.mesh.specs.declared.element.Triple.{Triple}
 use Rattle.mesh.specs.Complex.{mem, within, keep, Nodup, Sub}
 use Rattle.mesh.specs.Element.{triple, cornersOf}
-use Rattle.mesh.specs.Moves.{onto}
-use Rattle.mesh.specs.Feature.{Label, label, bitsFrom, bitsOf, shared, labelsWith, labelsUnder, labels, features, threeApart, mapped, expected}
+use Rattle.mesh.specs.Feature.{onto, Label, label, bitsFrom, bitsOf, shared, labelsWith, labelsUnder, labels, features, threeApart, mapped, expected}
 use Rattle.mesh.proofs.Laws.Complex.Sets.{split, and-fst, and-snd, mem-here, mem-there, mem-cases, mem-nil, out-head, out-tail, Sub-cons, within-elim, within-intro, keep-mem, rm, rm-mem, rm-length, short}
 use Rattle.mesh.proofs.Laws.Link.Members.{kept-elim, kept-intro}
 use Rattle.mesh.proofs.Laws.Link.Simplices.{rising, rising-head, rising-tail, rising-cons}

@@ -15,11 +15,10 @@ use Rattle.mesh.specs.declared.element.Tet.{Tet}
 use Rattle.mesh.specs.declared.element.Triple.{Triple}
 use Rattle.mesh.specs.Complex.{mem, within, keep, Nodup, Sub}
 use Rattle.mesh.specs.Element.{cornersOf}
-use Rattle.mesh.specs.Moves.{onto}
+use Rattle.mesh.specs.Feature.{onto, Label, label, sameLabel, bitsOf, shared, features, mapped, expected, neighbours, edgesOk, neighboursOk, featureOk, linkOk}
 use Rattle.mesh.specs.Tests.{every}
 use Rattle.mesh.specs.Link.{sameSimplex, interiorOk, boundaryAbout, boundaryOk}
-use Rattle.mesh.specs.Feature.{Label, label, sameLabel, bitsOf, shared, features, mapped, expected, neighbours, edgesOk, neighboursOk, featureOk, linkOk}
-use Rattle.mesh.specs.FeatureByMasks.{cornersIn, joined, outlives, onCurve, rimOk, curveOk, featureByMasks}
+use Rattle.mesh.specs.inside.FeatureByMasks.{cornersIn, joined, outlives, onCurve, rimOk, curveOk, featureByMasks}
 use Rattle.mesh.proofs.Laws.Complex.Sets.{split, clash, nope, same, or-cases, or-right, and-fst, and-snd, mem-here, mem-there, mem-nil, out, Sub-cons, short}
 use Rattle.mesh.proofs.Laws.Link.Members.{Alike, kept-elim, kept-intro, every-elim, every-intro, sameSet-elim, sameSet-intro}
 use Rattle.mesh.proofs.Laws.Link.Simplices.{every-mem, mem-every, rising, rising-head, rising-nodup, rising-unique}

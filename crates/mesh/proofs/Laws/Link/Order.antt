@@ -9,7 +9,8 @@ use borrow.Author.Tests.{eqb-true}
 use lib.Dec.{eqb, leb}
 use Rattle.mesh.specs.declared.element.Tet.{Tet}
 use Rattle.mesh.specs.declared.element.Triple.{Triple}
-use Rattle.mesh.specs.Complex.{mem, sub, within, keep, star, Proper, SameComplex}
+use Rattle.mesh.specs.Complex.{mem, sub, within, keep}
+use Rattle.mesh.specs.inside.Complex.{star, Proper, SameComplex}
 use Rattle.mesh.specs.Element.{triple, keyOf, verticesOf, cornersOf}
 use Rattle.mesh.specs.Sort.{sort}
 use Rattle.mesh.specs.Sets.{both, times}

@@ -7,7 +7,7 @@ use mathlib.Core.List.{List, [], _∷_, map, List·Memᴰ}
 use Prim.Native.Nat.{ℕ}
 use Rattle.mesh.specs.declared.element.Tet.{Tet}
 use Rattle.mesh.specs.Complex.{mem, within, keep, Sub}
-use Rattle.mesh.specs.Moves.{Collapsible}
+use Rattle.mesh.specs.inside.Moves.{Collapsible}
 use Rattle.mesh.specs.Element.{verticesOf}
 use Rattle.mesh.specs.Link.{interiorOk, boundaryAbout, boundaryOk}
 use Rattle.mesh.specs.Feature.{featureOk, linkOk}

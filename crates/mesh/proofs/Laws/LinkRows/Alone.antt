@@ -8,13 +8,14 @@ use lib.ListN.{length, take, drop, getD, length-append, length-drop, drop-of-len
 use lib.Seq.{paste, drop-cons, drop-drop, drop-at, length-take-le, getD-take}
 use Rattle.mesh.specs.declared.element.Triple.{Triple}
 use Rattle.mesh.specs.Sort.{sort}
-use Rattle.mesh.specs.Rows.{rows, flat, leRow, sortedArea, run, runLength}
+use Rattle.mesh.specs.inside.Rows.{rows, leRow, sortedArea, run, runLength}
+use Rattle.mesh.specs.Words.{flat}
 use Rattle.mesh.specs.Element.{tets}
-use Rattle.mesh.specs.Group.{runs, sameFirst}
-use Rattle.mesh.specs.Manifold.{KeptBelow}
-use Rattle.mesh.specs.Faces.{SortedKeys}
-use Rattle.mesh.specs.List.{stacked}
-use Rattle.mesh.specs.LinkRows.{faceRows, faceIn, aloneAbout, runFaces, facesAlone, aloneFaces, rowsOfFaces}
+use Rattle.mesh.specs.inside.Group.{runs, sameFirst}
+use Rattle.mesh.specs.inside.Manifold.{KeptBelow}
+use Rattle.mesh.specs.inside.Faces.{SortedKeys}
+use Rattle.mesh.specs.inside.List.{stacked}
+use Rattle.mesh.specs.inside.LinkRows.{faceRows, faceIn, aloneAbout, runFaces, facesAlone, aloneFaces, rowsOfFaces}
 use Rattle.mesh.proofs.Laws.Rows.{Shape, none, more, rows-flat, length-rows, rows-at}
 use Rattle.mesh.proofs.Laws.Manifold.Fill.{flat-append}
 use Rattle.mesh.proofs.Laws.Manifold.Growth.{kept-both}

@@ -11,13 +11,14 @@ use lib.Seq.{paste, sets-eq, getD-drop, getD-take, drop-drop}
 use Rattle.mesh.specs.declared.element.Pair.{Pair}
 use Rattle.mesh.specs.declared.element.Tet.{Tet}
 use Rattle.mesh.specs.declared.element.Triple.{Triple}
-use Rattle.mesh.specs.Rows.{rows, flat}
+use Rattle.mesh.specs.inside.Rows.{rows}
+use Rattle.mesh.specs.Words.{flat}
 use Rattle.mesh.specs.Tests.{every}
 use Rattle.mesh.specs.Element.{triple, cornersOf, verticesOf}
 use Rattle.mesh.specs.Link.{subsets}
-use Rattle.mesh.specs.Manifold.{filled}
-use Rattle.mesh.specs.Intake.{tetAt}
-use Rattle.mesh.specs.LinkRows.{mark, linkFace, subsetAt, elementRowAt, twoWords, faceIn, marked}
+use Rattle.mesh.specs.inside.Manifold.{filled}
+use Rattle.mesh.specs.inside.Intake.{tetAt}
+use Rattle.mesh.specs.inside.LinkRows.{mark, linkFace, subsetAt, elementRowAt, twoWords, faceIn, marked}
 use Rattle.mesh.proofs.Laws.Rows.{one-row}
 use Rattle.mesh.proofs.Laws.Manifold.Fill.{fill-front, fill-turn}
 use Rattle.mesh.proofs.Laws.Euler.Areas.{tet-kept}

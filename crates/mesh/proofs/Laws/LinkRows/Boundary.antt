@@ -12,13 +12,13 @@ use lib.ListN.{length}
 use Rattle.mesh.specs.declared.element.Tet.{Tet}
 use Rattle.mesh.specs.declared.element.Triple.{Triple}
 use Rattle.mesh.specs.Sort.{sort}
-use Rattle.mesh.specs.Rows.{leRow}
+use Rattle.mesh.specs.inside.Rows.{leRow}
 use Rattle.mesh.specs.Complex.{mem, Nodup, Sub}
 use Rattle.mesh.specs.Tests.{every}
 use Rattle.mesh.specs.Element.{triple, cornersOf}
 use Rattle.mesh.specs.Link.{subsets, boundaryAbout, boundaryOk}
-use Rattle.mesh.specs.Group.{runs, sameFirst}
-use Rattle.mesh.specs.LinkRows.{mark, apex, beside, linkPair, twoWords, faceRows, aloneFaces, rowsOfFaces, meetRun}
+use Rattle.mesh.specs.inside.Group.{runs, sameFirst}
+use Rattle.mesh.specs.inside.LinkRows.{mark, apex, beside, linkPair, twoWords, faceRows, aloneFaces, rowsOfFaces, meetRun}
 use Rattle.mesh.proofs.Laws.Complex.Sets.{split, clash, nope, mem-here, mem-cases, mem-nil, rm, rm-out, rm-mem, rm-none, rm-sub, short}
 use Rattle.mesh.proofs.Laws.Link.Simplices.{rising, rising-head, rising-tail, rising-nodup, subset-elim, subset-intro}
 use Rattle.mesh.proofs.Laws.Link.Keys.{Fours}

@@ -11,15 +11,16 @@ use lib.Dec.{eqb}
 use lib.ListN.{length, getD}
 use Rattle.mesh.specs.declared.element.Tet.{Tet}
 use Rattle.mesh.specs.Sort.{sort}
-use Rattle.mesh.specs.Rows.{leRow}
+use Rattle.mesh.specs.inside.Rows.{leRow}
 use Rattle.mesh.specs.Complex.{mem, Nodup, Sub}
 use Rattle.mesh.specs.Tests.{every, nodup}
 use Rattle.mesh.specs.Element.{verticesOf, cornersOf, tets}
 use Rattle.mesh.specs.Link.{interiorOk, subsets}
-use Rattle.mesh.specs.Group.{numbers, runs, sameFirst}
-use Rattle.mesh.specs.Intake.{tetAt}
-use Rattle.mesh.specs.Euler.{spread}
-use Rattle.mesh.specs.LinkRows.{mark, apex, opposite, linkFace, threeWords, elementRows, subsetAt, elementRowAt, meetRun}
+use Rattle.mesh.specs.Group.{numbers}
+use Rattle.mesh.specs.inside.Group.{runs, sameFirst}
+use Rattle.mesh.specs.inside.Intake.{tetAt}
+use Rattle.mesh.specs.inside.Euler.{spread}
+use Rattle.mesh.specs.inside.LinkRows.{mark, apex, opposite, linkFace, threeWords, elementRows, subsetAt, elementRowAt, meetRun}
 use Rattle.mesh.proofs.Laws.Complex.Sets.{split, clash, nope, mem-cases, mem-nil, out-head, out-tail, rm, rm-out, rm-mem, rm-none, rm-sub}
 use Rattle.mesh.proofs.Laws.Euler.Areas.{spread-numbers}
 use Rattle.mesh.proofs.Laws.Euler.Faces.{spread-from, spread-in}

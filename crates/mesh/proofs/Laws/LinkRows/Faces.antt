@@ -12,15 +12,15 @@ use lib.Seq.{getD-take}
 use Rattle.mesh.specs.declared.element.Tet.{Tet}
 use Rattle.mesh.specs.declared.element.Triple.{Triple}
 use Rattle.mesh.specs.Sort.{sort}
-use Rattle.mesh.specs.Rows.{leRow, eqRow}
+use Rattle.mesh.specs.inside.Rows.{leRow, eqRow}
 use Rattle.mesh.specs.Complex.{mem, keep}
 use Rattle.mesh.specs.Tests.{every}
 use Rattle.mesh.specs.Sets.{among, times}
 use Rattle.mesh.specs.Element.{keyOf, cornersOf}
 use Rattle.mesh.specs.Boundary.{sameTriple, allFaces}
 use Rattle.mesh.specs.Link.{keysAbout, boundaryAbout}
-use Rattle.mesh.specs.Group.{runs, sameFirst}
-use Rattle.mesh.specs.LinkRows.{mark, faceIn, aloneAbout, runFaces, facesAlone, aloneFaces}
+use Rattle.mesh.specs.inside.Group.{runs, sameFirst}
+use Rattle.mesh.specs.inside.LinkRows.{mark, faceIn, aloneAbout, runFaces, facesAlone, aloneFaces}
 use Rattle.mesh.proofs.Laws.Complex.Sets.{split, clash, nope, and-fst, and-snd}
 use Rattle.mesh.proofs.Laws.Rows.{eqRow-sound}
 use Rattle.mesh.proofs.Laws.Manifold.RowRuns.{every-run, every-same, kept-number}

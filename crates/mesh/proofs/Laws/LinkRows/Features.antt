@@ -12,15 +12,15 @@ use lib.Seq.{getD-take}
 use Rattle.mesh.specs.declared.element.Tet.{Tet}
 use Rattle.mesh.specs.declared.element.Triple.{Triple}
 use Rattle.mesh.specs.Sort.{sort, unique}
-use Rattle.mesh.specs.Rows.{leRow}
+use Rattle.mesh.specs.inside.Rows.{leRow}
 use Rattle.mesh.specs.Complex.{mem, keep, Sub}
 use Rattle.mesh.specs.Tests.{every}
 use Rattle.mesh.specs.Element.{cornersOf}
 use Rattle.mesh.specs.Link.{sameSimplex, boundaryAbout}
 use Rattle.mesh.specs.Feature.{bitsOf, shared, featureOk}
-use Rattle.mesh.specs.FeatureByMasks.{cornersIn, joined, outlives, rimOk, curveOk, featureByMasks}
-use Rattle.mesh.specs.Group.{runs, sameFirst}
-use Rattle.mesh.specs.LinkRows.{mark, twoWords, aloneFaces, rowsOfFaces, marked, vertexBy, featureRun}
+use Rattle.mesh.specs.inside.FeatureByMasks.{cornersIn, joined, outlives, rimOk, curveOk, featureByMasks}
+use Rattle.mesh.specs.inside.Group.{runs, sameFirst}
+use Rattle.mesh.specs.inside.LinkRows.{mark, twoWords, aloneFaces, rowsOfFaces, marked, vertexBy, featureRun}
 use Rattle.mesh.proofs.Laws.Complex.Sets.{split, clash, nope, same, or-cases, or-left, or-right, and-fst, and-snd, mem-here, mem-there, mem-nil, Sub-cons, within-intro, full}
 use Rattle.mesh.proofs.Laws.Rows.{eqRow-sound, eqRow-refl}
 use Rattle.mesh.proofs.Laws.Manifold.Kept.{every-sort}

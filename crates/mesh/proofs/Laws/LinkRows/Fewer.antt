@@ -11,15 +11,15 @@ use lib.ListN.{take, getD}
 use lib.Seq.{getD-take}
 use Rattle.mesh.specs.declared.element.Tet.{Tet}
 use Rattle.mesh.specs.Sort.{sort}
-use Rattle.mesh.specs.Rows.{leRow}
+use Rattle.mesh.specs.inside.Rows.{leRow}
 use Rattle.mesh.specs.Complex.{keep}
 use Rattle.mesh.specs.Tests.{every}
 use Rattle.mesh.specs.Element.{verticesOf}
 use Rattle.mesh.specs.Link.{subsets, interiorOk}
-use Rattle.mesh.specs.Group.{runs, sameFirst}
-use Rattle.mesh.specs.Euler.{spread}
-use Rattle.mesh.specs.LinkRows.{mark, linkFace, threeWords, elementRows, marked, meetRun}
-use Rattle.mesh.specs.LinkTable.{tableWord, toldBoth, toldMark, bothRow, toldWords, toldTet}
+use Rattle.mesh.specs.inside.Group.{runs, sameFirst}
+use Rattle.mesh.specs.inside.Euler.{spread}
+use Rattle.mesh.specs.inside.LinkRows.{mark, linkFace, threeWords, elementRows, marked, meetRun}
+use Rattle.mesh.specs.inside.LinkTable.{tableWord, toldBoth, toldMark, bothRow, toldWords, toldTet}
 use Rattle.mesh.proofs.Laws.Complex.Sets.{split, clash, nope, same, or-cases, and-fst, and-snd}
 use Rattle.mesh.proofs.Laws.Rows.{eqRow-sound}
 use Rattle.mesh.proofs.Laws.Boundary.Same.{keep-same, keep-keep}

@@ -9,14 +9,15 @@ use lib.ListN.{length, take, drop, length-drop}
 use lib.Seq.{paste, length-take-le, take-take, drop-drop, drop-at}
 use Rattle.mesh.specs.declared.element.Triple.{Triple}
 use Rattle.mesh.specs.Sort.{sort}
-use Rattle.mesh.specs.Rows.{rows, flat, leRow, eqRow, sortedArea}
+use Rattle.mesh.specs.inside.Rows.{rows, leRow, eqRow, sortedArea}
+use Rattle.mesh.specs.Words.{flat}
 use Rattle.mesh.specs.Element.{tets, keyOf, cornersOf}
 use Rattle.mesh.specs.Boundary.{allFaces}
-use Rattle.mesh.specs.Surface.{faceAt, faceRow, numbers, faceRows}
-use Rattle.mesh.specs.Manifold.{filled, KeptBelow}
-use Rattle.mesh.specs.Faces.{TriedFaces, SortedKeys, TriedKeys}
-use Rattle.mesh.specs.Euler.{spread, triangleRows, triangleRowAt}
-use Rattle.mesh.specs.List.{stacked}
+use Rattle.mesh.specs.inside.Surface.{faceAt, faceRow, numbers, faceRows}
+use Rattle.mesh.specs.inside.Manifold.{filled, KeptBelow}
+use Rattle.mesh.specs.inside.Faces.{TriedFaces, SortedKeys, TriedKeys}
+use Rattle.mesh.specs.inside.Euler.{spread, triangleRows, triangleRowAt}
+use Rattle.mesh.specs.inside.List.{stacked}
 use Rattle.mesh.proofs.Laws.Rows.{Shape, none, more, shape-rows, rows-flat, rows-add, leRow-total, leRow-take}
 use Rattle.mesh.proofs.Laws.Sort.{ordered-sort}
 use Rattle.mesh.proofs.Laws.SortedRows.{sorted-rows-unique}

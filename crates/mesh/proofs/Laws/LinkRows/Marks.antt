@@ -10,10 +10,10 @@ use lib.Dec.{eqb}
 use lib.ListN.{length, take, getD}
 use lib.Seq.{take-at, getD-append-seam}
 use Rattle.mesh.specs.Sort.{sort, uniqueAfter, unique}
-use Rattle.mesh.specs.Rows.{leRow, eqRow}
+use Rattle.mesh.specs.inside.Rows.{leRow, eqRow}
 use Rattle.mesh.specs.Complex.{keep}
-use Rattle.mesh.specs.Group.{sameFirst}
-use Rattle.mesh.specs.LinkRows.{marked, threeWords, twoWords}
+use Rattle.mesh.specs.inside.Group.{sameFirst}
+use Rattle.mesh.specs.inside.LinkRows.{marked, threeWords, twoWords}
 use Rattle.mesh.proofs.Laws.Complex.Sets.{split, mem-here}
 use Rattle.mesh.proofs.Laws.Rows.{leRow-trans, leRow-total, eqRow-refl}
 use Rattle.mesh.proofs.Laws.Manifold.Kept.{every-sort, keep-sort}

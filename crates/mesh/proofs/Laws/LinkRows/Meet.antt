@@ -8,12 +8,12 @@ use native.Mathlib.Omega.{arith}
 use lib.Dec.{eqb, leb}
 use lib.ListN.{length, take, getD}
 use Rattle.mesh.specs.Sort.{sort, unique}
-use Rattle.mesh.specs.Rows.{leRow}
+use Rattle.mesh.specs.inside.Rows.{leRow}
 use Rattle.mesh.specs.Complex.{mem, within, keep, Nodup, Sub}
 use Rattle.mesh.specs.Tests.{every}
 use Rattle.mesh.specs.Link.{linksMeet}
-use Rattle.mesh.specs.Group.{runs, sameFirst}
-use Rattle.mesh.specs.LinkRows.{markBy, mark, apex, marked, meetRun}
+use Rattle.mesh.specs.inside.Group.{runs, sameFirst}
+use Rattle.mesh.specs.inside.LinkRows.{markBy, mark, apex, marked, meetRun}
 use Rattle.mesh.proofs.Laws.Complex.Sets.{split, clash, nope, same, and-fst, and-snd, mem-here, mem-there, mem-nil, Sub-cons, Sub-both, within-elim, within-intro, within-mono, short}
 use Rattle.mesh.proofs.Laws.Rows.{eqRow-sound}
 use Rattle.mesh.proofs.Laws.Manifold.RowRuns.{every-run, every-same}

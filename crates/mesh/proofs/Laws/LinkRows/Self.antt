@@ -13,9 +13,8 @@ use Rattle.mesh.specs.Complex.{mem, within, keep, Nodup}
 use Rattle.mesh.specs.Tests.{every}
 use Rattle.mesh.specs.Sets.{sameSet}
 use Rattle.mesh.specs.Element.{triple, verticesOf, cornersOf}
-use Rattle.mesh.specs.Moves.{onto}
+use Rattle.mesh.specs.Feature.{onto, Label, label, sameLabel, features, threeApart, mapped, expected, neighbours, edgesOk, neighboursOk, featureOk, linkOk}
 use Rattle.mesh.specs.Link.{linksMeet, interiorOk, boundaryAbout, boundaryOk}
-use Rattle.mesh.specs.Feature.{Label, label, sameLabel, features, threeApart, mapped, expected, neighbours, edgesOk, neighboursOk, featureOk, linkOk}
 use Rattle.mesh.proofs.Laws.Complex.Sets.{split, nope, same, or-left, and-fst, and-snd, mem-here, mem-there, out-head, out-tail, within-mono, Sub-cons}
 use Rattle.mesh.proofs.Laws.Link.Members.{every-intro, sameSet-intro}
 use Rattle.mesh.proofs.Laws.Link.Simplices.{rising-nodup}

@@ -13,18 +13,19 @@ use Rattle.mesh.specs.declared.element.Tet.{Tet}
 use Rattle.mesh.specs.declared.element.Triple.{Triple}
 use Rattle.mesh.specs.Words.{wordAt}
 use Rattle.mesh.specs.Sort.{sort}
-use Rattle.mesh.specs.Rows.{rows, leRow, sortedArea}
+use Rattle.mesh.specs.inside.Rows.{rows, leRow, sortedArea}
 use Rattle.mesh.specs.Complex.{keep}
 use Rattle.mesh.specs.Tests.{every, nodup}
 use Rattle.mesh.specs.Element.{tets, cornersOf, verticesOf}
 use Rattle.mesh.specs.Link.{interiorOk}
-use Rattle.mesh.specs.Group.{numbers, runs, sameFirst}
-use Rattle.mesh.specs.Manifold.{KeptBelow}
-use Rattle.mesh.specs.Intake.{tetAt}
-use Rattle.mesh.specs.Euler.{spread}
-use Rattle.mesh.specs.List.{stacked, Pushed}
-use Rattle.mesh.specs.LinkRows.{mark, linkFace, subsetAt, elementRowAt, elementRows, meetRun}
-use Rattle.mesh.specs.LinkTable.{toldBoth, bothFace, noneFace, bothRow, toldWords, toldTet}
+use Rattle.mesh.specs.Group.{numbers}
+use Rattle.mesh.specs.inside.Group.{runs, sameFirst}
+use Rattle.mesh.specs.inside.Manifold.{KeptBelow}
+use Rattle.mesh.specs.inside.Intake.{tetAt}
+use Rattle.mesh.specs.inside.Euler.{spread}
+use Rattle.mesh.specs.inside.List.{stacked, Pushed}
+use Rattle.mesh.specs.inside.LinkRows.{mark, linkFace, subsetAt, elementRowAt, elementRows, meetRun}
+use Rattle.mesh.specs.inside.LinkTable.{toldBoth, bothFace, noneFace, bothRow, toldWords, toldTet}
 use Rattle.mesh.proofs.Laws.Bools.{split, and-left, and-right}
 use Rattle.mesh.proofs.Laws.Rows.{Shape, none, more}
 use Rattle.mesh.proofs.Laws.Boundary.Same.{length-keep, length-map}

@@ -6,9 +6,9 @@ use Prim.Native.Nat.{ℕ, zero, suc, _+_, _-_, _*_, _≤_, _<_}
 use native.Mathlib.Omega.{arith}
 use lib.ListN.{length, take, drop, getD, length-drop}
 use lib.Seq.{drop-drop, getD-drop, getD-take}
-use Rattle.mesh.specs.Rows.{rows, run, runLength}
+use Rattle.mesh.specs.inside.Rows.{rows, run, runLength}
 use Rattle.mesh.specs.Tests.{every}
-use Rattle.mesh.specs.Group.{runs, sameFirst}
+use Rattle.mesh.specs.inside.Group.{runs, sameFirst}
 use Rattle.mesh.proofs.Laws.Rows.{length-rows, drop-rows, take-rows}
 use Rattle.mesh.proofs.Laws.Manifold.Steps.{run-is, run-some, run-few, runs-turn, runs-fail, runs-end}
 

@@ -11,15 +11,17 @@ use lib.ListN.{length, take, drop, getD}
 use Rattle.mesh.specs.declared.element.Tet.{Tet}
 use Rattle.mesh.specs.Words.{zeroWords}
 use Rattle.mesh.specs.Sort.{sort}
-use Rattle.mesh.specs.Rows.{rows, leRow, sortedArea}
+use Rattle.mesh.specs.inside.Rows.{rows, leRow, sortedArea}
 use Rattle.mesh.specs.Complex.{sub}
 use Rattle.mesh.specs.Tests.{every, nodup}
 use Rattle.mesh.specs.Element.{verticesOf, tets}
 use Rattle.mesh.specs.Link.{interiorOk, boundaryAbout, boundaryOk}
-use Rattle.mesh.specs.Feature.{bitsOf, shared, featureOk, linkOk}
-use Rattle.mesh.specs.Group.{numbers, runs, sameFirst}
-use Rattle.mesh.specs.Manifold.{filled, KeptBelow, Tested}
-use Rattle.mesh.specs.LinkRows.{elementRowAt, aloneFaces, rowsOfFaces, marked, meetRun, rimBy, curveBy, vertexBy, featureRun, EdgeRows, linkFits, linkOkIn}
+use Rattle.mesh.specs.Feature.{bitsOf, shared, featureOk, linkOk, linkFits, linkOkIn}
+use Rattle.mesh.specs.Group.{numbers}
+use Rattle.mesh.specs.inside.Group.{runs, sameFirst}
+use Rattle.mesh.specs.Manifold.{Tested}
+use Rattle.mesh.specs.inside.Manifold.{filled, KeptBelow}
+use Rattle.mesh.specs.inside.LinkRows.{elementRowAt, aloneFaces, rowsOfFaces, marked, meetRun, rimBy, curveBy, vertexBy, featureRun, EdgeRows}
 use Rattle.mesh.proofs.Laws.Complex.Sets.{sub-elim, sub-intro}
 use Rattle.mesh.proofs.Laws.Bools.{and-left, and-right}
 use Rattle.mesh.proofs.Laws.Manifold.Fill.{fill-kept, filled-rows}

@@ -15,13 +15,13 @@ use Rattle.mesh.specs.declared.element.Tet.{Tet}
 use Rattle.mesh.specs.Complex.{keep}
 use Rattle.mesh.specs.Measure.{measure, isBad}
 use Rattle.mesh.specs.Element.{tet, tets, verticesOf}
-use Rattle.mesh.specs.Intake.{tetAt}
-use Rattle.mesh.specs.Manifold.{KeptBelow}
+use Rattle.mesh.specs.inside.Intake.{tetAt}
+use Rattle.mesh.specs.inside.Manifold.{KeptBelow}
 use Rattle.mesh.proofs.Laws.Bools.{split}
 use Rattle.mesh.proofs.Laws.Rows.{Shape, none, more}
 use Rattle.mesh.proofs.Laws.Intake.Reads.{length-tets, tets-at}
 use Rattle.mesh.proofs.Laws.Euler.Areas.{tet-kept}
-use Rattle.mesh.specs.List.{badIn, stacked}
+use Rattle.mesh.specs.inside.List.{badIn, stacked}
 use Rattle.mesh.proofs.Laws.List.Stack.{stack-start, stack-kept, stack-turn}
 
 -- ---- scores

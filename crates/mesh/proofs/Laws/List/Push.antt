@@ -7,14 +7,15 @@ use Prim.Native.Nat.{ℕ, _+_, _*_, _≤_}
 use native.Mathlib.Omega.{arith}
 use lib.ListN.{length, take, drop, length-append}
 use lib.Seq.{paste, length-take-le, take-at, drop-at, drop-drop}
-use Rattle.mesh.specs.Rows.{rows, flat}
+use Rattle.mesh.specs.inside.Rows.{rows}
+use Rattle.mesh.specs.Words.{flat}
 use Rattle.mesh.specs.Complex.{keep}
 use Rattle.mesh.specs.Tests.{every}
-use Rattle.mesh.specs.Manifold.{KeptBelow}
+use Rattle.mesh.specs.inside.Manifold.{KeptBelow}
 use Rattle.mesh.proofs.Laws.Bools.{split}
 use Rattle.mesh.proofs.Laws.Rows.{Shape, none, more, rows-flat}
 use Rattle.mesh.proofs.Laws.Manifold.Fill.{flat-append}
-use Rattle.mesh.specs.List.{stacked, Pushed}
+use Rattle.mesh.specs.inside.List.{stacked, Pushed}
 use Rattle.mesh.proofs.Laws.List.Stack.{stack-start, stack-kept, stack-turn, front}
 
 pub push-start : (w b : ℕ) (s : List ℕ) → Pushed [] w b s s 0

@@ -9,14 +9,14 @@ use lib.ListN.{length, take, drop, length-append, length-drop}
 use lib.Seq.{length-take-le, take-at, drop-at, drop-drop, take-add}
 use borrow.Author.Tests.{le-leb, lt-leb, lt-ltb, leb-true}
 use Rattle.mesh.specs.declared.element.Tet.{Tet}
-use Rattle.mesh.specs.Words.{zeroWords}
+use Rattle.mesh.specs.Words.{zeroWords, flat}
 use Rattle.mesh.specs.Sort.{sort, unique}
-use Rattle.mesh.specs.Rows.{rows, flat, leRow, eqRow, fitRows, sortedArea, uniqueRows, uniqueArea}
+use Rattle.mesh.specs.inside.Rows.{rows, leRow, eqRow, fitRows, sortedArea, uniqueRows, uniqueArea}
 use Rattle.mesh.specs.Complex.{keep}
 use Rattle.mesh.specs.Element.{tets, verticesOf}
 use Rattle.mesh.specs.Group.{numbers}
-use Rattle.mesh.specs.Manifold.{filled, KeptBelow}
-use Rattle.mesh.specs.Euler.{spread}
+use Rattle.mesh.specs.inside.Manifold.{filled, KeptBelow}
+use Rattle.mesh.specs.inside.Euler.{spread}
 use Rattle.mesh.proofs.Laws.Bools.{and-intro, and-left, and-right}
 use Rattle.mesh.proofs.Laws.Rows.{shape-rows, shape-sort, shape-unique, length-flat}
 use Rattle.mesh.proofs.Laws.Keeping.{unique-is, length-unique-area, length-unique-rows}
@@ -25,7 +25,7 @@ use Rattle.mesh.proofs.Laws.Manifold.Fill.{fill-kept, filled-rows}
 use Rattle.mesh.proofs.Laws.Manifold.Steps.{put-kept, sort-kept, sort-from-rows}
 use Rattle.mesh.proofs.Laws.Euler.Areas.{tets-flat}
 use Rattle.geometry.specs.declared.point.Point.{Point}
-use Rattle.mesh.specs.List.{badIn, setOf, listFits, Listing, listedIn, stacked}
+use Rattle.mesh.specs.inside.List.{badIn, setOf, listFits, Listing, listedIn, stacked}
 
 -- ---- the set of the rows from a on
 

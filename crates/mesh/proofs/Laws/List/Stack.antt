@@ -5,11 +5,11 @@ use Prim.Native.Nat.{ℕ, suc, _+_, _-_, _*_, _≤_}
 use native.Mathlib.Omega.{arith}
 use lib.ListN.{length, take, drop, length-append, length-drop, take-append-drop}
 use lib.Seq.{length-take-le, take-all, take-at, drop-at, drop-drop, paste}
-use Rattle.mesh.specs.Rows.{flat}
-use Rattle.mesh.specs.Manifold.{KeptBelow}
+use Rattle.mesh.specs.Words.{flat}
+use Rattle.mesh.specs.inside.Manifold.{KeptBelow}
 use Rattle.mesh.proofs.Laws.Rows.{Shape, none, more, length-flat}
 use Rattle.mesh.proofs.Laws.Manifold.Fill.{flat-append}
-use Rattle.mesh.specs.List.{stacked}
+use Rattle.mesh.specs.inside.List.{stacked}
 
 pub stack-start : (w b : ℕ) (s : List ℕ) → s ≡ stacked [] w b s
 unfolding stacked flat

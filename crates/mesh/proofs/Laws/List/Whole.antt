@@ -7,15 +7,15 @@ use native.Mathlib.Omega.{arith}
 use lib.ListN.{length, take, drop}
 use Rattle.geometry.specs.declared.point.Point.{Point}
 use Rattle.mesh.specs.declared.element.Tet.{Tet}
-use Rattle.mesh.specs.Words.{zeroWords}
-use Rattle.mesh.specs.Rows.{rows, flat}
+use Rattle.mesh.specs.Words.{zeroWords, flat}
+use Rattle.mesh.specs.inside.Rows.{rows}
 use Rattle.mesh.specs.Complex.{keep}
 use Rattle.mesh.specs.Element.{tets, verticesOf}
 use Rattle.mesh.specs.Group.{numbers}
-use Rattle.mesh.specs.Manifold.{filled, KeptBelow}
-use Rattle.mesh.specs.Euler.{spread, edgeRows, triangleRows, edgeRowAt, triangleRowAt}
+use Rattle.mesh.specs.inside.Manifold.{filled, KeptBelow}
+use Rattle.mesh.specs.inside.Euler.{spread, edgeRows, triangleRows, edgeRowAt, triangleRowAt}
 use Rattle.mesh.proofs.Laws.Euler.Areas.{edge-rows, triangle-rows}
-use Rattle.mesh.specs.List.{badIn, setOf, listFits, Listing, listedIn, stacked}
+use Rattle.mesh.specs.inside.List.{badIn, setOf, listFits, Listing, listedIn, stacked}
 use Rattle.mesh.proofs.Laws.List.Bad.{gathered-few, gathered-kept}
 use Rattle.mesh.proofs.Laws.List.Rows.{part-room, rows-room, rows-number, rows-area, fits-is, in-yes}
 

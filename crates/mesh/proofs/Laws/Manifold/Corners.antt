@@ -14,18 +14,18 @@ use Rattle.mesh.specs.declared.element.Pair.{Pair}
 use Rattle.mesh.specs.declared.element.Triple.{Triple}
 use Rattle.mesh.specs.Words.{wordAt}
 use Rattle.mesh.specs.Sort.{sort}
-use Rattle.mesh.specs.Rows.{leRow, eqRow}
+use Rattle.mesh.specs.inside.Rows.{leRow, eqRow}
 use Rattle.mesh.specs.Complex.{keep}
 use Rattle.mesh.specs.Tests.{every}
 use Rattle.mesh.specs.Sets.{times}
 use Rattle.mesh.specs.Element.{triple, samePair}
-use Rattle.mesh.specs.Manifold.{edgesOf, surfaceEdges, edgesTwice, surfaceLink, oneCycle, surfaceVertices}
+use Rattle.mesh.specs.Manifold.{edgesOf, surfaceEdges, edgesTwice, surfaceLink, oneCycle, surfaceVertices, triples}
 use Rattle.mesh.specs.Group.{numbers}
 use Rattle.mesh.proofs.Laws.Bools.{split, clash, and-intro, and-left, and-right}
 use Rattle.mesh.proofs.Laws.Rows.{eqRow-sound}
 use Rattle.mesh.proofs.Laws.Link.Members.{keep-same}
-use Rattle.mesh.specs.Group.{runs, sameFirst}
-use Rattle.mesh.specs.Manifold.{triples, cornerAt, edgeRow, linkRow, linkPair, pairBelow, two, cycle}
+use Rattle.mesh.specs.inside.Group.{runs, sameFirst}
+use Rattle.mesh.specs.inside.Manifold.{cornerAt, edgeRow, linkRow, linkPair, pairBelow, two, cycle}
 use Rattle.mesh.proofs.Laws.Manifold.Kept.{Steady, none, more}
 use Rattle.mesh.proofs.Laws.Manifold.RowRuns.{every-same, every-run, kept-number, kept-steady}
 use Rattle.mesh.proofs.Laws.Boundary.Same.{keep-map}

@@ -12,14 +12,14 @@ use lib.Seq.{getD-take, getD-drop, take-all, take-suc, drop-drop}
 use borrow.Author.Tests.{ltb-true}
 use Rattle.mesh.specs.declared.element.Pair.{Pair}
 use Rattle.mesh.specs.Words.{wordAt}
-use Rattle.mesh.specs.Rows.{rows, run, runLength}
+use Rattle.mesh.specs.inside.Rows.{rows, run, runLength}
 use Rattle.mesh.specs.Tests.{every}
 use Rattle.mesh.specs.Element.{pair}
 use Rattle.mesh.specs.Manifold.{grow, reach, oneCycle}
 use Rattle.mesh.proofs.Laws.Bools.{and-left, and-right}
 use Rattle.mesh.proofs.Laws.Rows.{rows-at, length-rows, take-rows, drop-rows}
-use Rattle.mesh.specs.Group.{runs, sameFirst}
-use Rattle.mesh.specs.Manifold.{linkPair, cycle, pairBelow, Low, Marked, KeptBelow, Grown, LinkRun, LinkArea}
+use Rattle.mesh.specs.inside.Group.{runs, sameFirst}
+use Rattle.mesh.specs.inside.Manifold.{linkPair, cycle, pairBelow, Low, Marked, KeptBelow, Grown, LinkRun, LinkArea}
 use Rattle.mesh.proofs.Laws.Manifold.Corners.{every-getD}
 use Rattle.mesh.proofs.Laws.Manifold.Growth.{kept-self, kept-set, kept-both, grown-more, low-marked, marked-low, Reaching, reach-start, reach-turn, reach-stop, reach-end, cycle-is}
 use Rattle.mesh.proofs.Laws.Manifold.Steps.{word-below, rows-below, run-some, run-few, run-is, runs-turn, runs-fail, runs-end}

@@ -10,12 +10,13 @@ use lib.Dec.{eqb}
 use lib.ListN.{length, take, drop, length-append, length-drop, take-append-drop}
 use lib.Seq.{length-take-le, take-all, take-at, drop-at, drop-drop, paste}
 use borrow.Author.Tests.{eqb-false}
-use Rattle.mesh.specs.Rows.{rows, flat}
+use Rattle.mesh.specs.inside.Rows.{rows}
+use Rattle.mesh.specs.Words.{flat}
 use Rattle.mesh.specs.Complex.{mem}
 use Rattle.mesh.specs.Group.{numbers}
 use Rattle.mesh.proofs.Laws.Complex.Sets.{split, mem-there}
 use Rattle.mesh.proofs.Laws.Rows.{Shape, none, more, rows-flat, length-flat}
-use Rattle.mesh.specs.Manifold.{filled, KeptBelow}
+use Rattle.mesh.specs.inside.Manifold.{filled, KeptBelow}
 
 -- ---- numbers
 

@@ -19,7 +19,7 @@ use Rattle.mesh.specs.Element.{pair}
 use Rattle.mesh.specs.Manifold.{grow, reach, oneCycle}
 use Rattle.mesh.proofs.Laws.Bools.{split, clash}
 use Rattle.mesh.proofs.Laws.Rows.{one-row}
-use Rattle.mesh.specs.Manifold.{Marked, Low, KeptBelow, Grown}
+use Rattle.mesh.specs.inside.Manifold.{Marked, Low, KeptBelow, Grown}
 
 -- ---- the definition
 

@@ -4,7 +4,8 @@ use mathlib.Core.Path.{_≡_, refl, sym, ap, _∙_}
 use mathlib.Core.Logic.{inl, inr}
 use mathlib.Core.Bool.{Bool, true, false, cond, _&&_}
 use mathlib.Core.List.{List, [], _∷_, List·Memᴰ, List·Memᴰ·head}
-use Rattle.mesh.specs.Sort.{insert, sort, headed, ordered}
+use Rattle.mesh.specs.Sort.{insert, sort}
+use Rattle.mesh.specs.inside.Sort.{headed, ordered}
 use Rattle.mesh.specs.Complex.{keep}
 use Rattle.mesh.specs.Tests.{every}
 use Rattle.mesh.proofs.Laws.Bools.{split, and-intro, and-left, and-right}

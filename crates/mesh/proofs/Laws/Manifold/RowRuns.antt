@@ -5,13 +5,14 @@ use mathlib.Core.List.{List, [], _∷_, map}
 use Prim.Native.Nat.{ℕ, _<_}
 use native.Mathlib.Omega.{arith}
 use lib.ListN.{length, take, drop}
-use Rattle.mesh.specs.Sort.{sort, leading, unique}
-use Rattle.mesh.specs.Rows.{leRow, eqRow, run}
+use Rattle.mesh.specs.Sort.{sort, unique}
+use Rattle.mesh.specs.inside.Sort.{leading}
+use Rattle.mesh.specs.inside.Rows.{leRow, eqRow, run}
 use Rattle.mesh.specs.Complex.{keep}
 use Rattle.mesh.specs.Tests.{every}
 use Rattle.mesh.proofs.Laws.Sort.{length-sort, ordered-sort}
 use Rattle.mesh.proofs.Laws.Rows.{leRow-trans, leRow-total, leRow-anti, leRow-take, eqRow-refl, eqRow-sound}
-use Rattle.mesh.specs.Group.{runs, sameFirst}
+use Rattle.mesh.specs.inside.Group.{runs, sameFirst}
 use Rattle.mesh.proofs.Laws.Manifold.Kept.{every-sort, keep-sort, keep-sort-ordered, Steady, steady-ordered}
 use Rattle.mesh.proofs.Laws.Manifold.Runs.{runs-turn, runs-keys, every-unique, keep-alike}
 use Rattle.mesh.proofs.Laws.Boundary.Faces.{every-map}

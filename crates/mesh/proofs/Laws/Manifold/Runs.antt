@@ -6,11 +6,12 @@ use mathlib.Core.Bool.{Bool, true, false, cond, _&&_}
 use mathlib.Core.List.{List, [], _∷_, map, List·Memᴰ, List·Memᴰ·head, List·Memᴰ·tail, List·Memᴰ·not-nil, List·Memᴰ·cases-cons}
 use Prim.Native.Nat.{ℕ, suc}
 use lib.ListN.{take, drop}
-use Rattle.mesh.specs.Sort.{headed, ordered, leading, uniqueAfter, unique}
+use Rattle.mesh.specs.Sort.{uniqueAfter, unique}
+use Rattle.mesh.specs.inside.Sort.{headed, ordered, leading}
 use Rattle.mesh.specs.Complex.{keep}
 use Rattle.mesh.specs.Tests.{every}
 use Rattle.mesh.proofs.Laws.Bools.{split, clash, fails, and-left, and-right}
-use Rattle.mesh.specs.Group.{joinRun, runs}
+use Rattle.mesh.specs.inside.Group.{joinRun, runs}
 
 -- two elements are the same where they behave alike
 module _ {A : Type 0} (same : A → A → Bool) (self : (x : A) → same x x ≡ true) (alike : (x y z : A) → same x y ≡ true → same x z ≡ same y z) where

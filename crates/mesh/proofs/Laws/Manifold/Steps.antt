@@ -10,15 +10,16 @@ use lib.ListN.{length, take, drop, getD, set, length-append, length-drop, length
 use lib.Seq.{getD-take, getD-append-add, length-take-le, take-at, drop-at, drop-cons, drop-drop, take-take, paste, sets-eq}
 use borrow.Author.Tests.{le-leb, lt-ltb}
 use Rattle.mesh.specs.Words.{wordAt, zeroWords}
-use Rattle.mesh.specs.Sort.{sort, leading}
-use Rattle.mesh.specs.Rows.{rows, leRow, eqRow, fitRows, sortedArea, run, runLength}
+use Rattle.mesh.specs.Sort.{sort}
+use Rattle.mesh.specs.inside.Sort.{leading}
+use Rattle.mesh.specs.inside.Rows.{rows, leRow, eqRow, fitRows, sortedArea, run, runLength}
 use Rattle.mesh.specs.Tests.{every}
 use Rattle.mesh.proofs.Laws.Bools.{and-intro}
 use Rattle.mesh.proofs.Laws.Rows.{rows-same}
 use Rattle.mesh.proofs.Laws.Areas.{rows-sorted, length-sorted}
 use Rattle.mesh.proofs.Laws.Runs.{length-is}
-use Rattle.mesh.specs.Group.{runs, sameFirst}
-use Rattle.mesh.specs.Manifold.{cornerAt, edgeRow, linkRow, filled, two, KeptBelow}
+use Rattle.mesh.specs.inside.Group.{runs, sameFirst}
+use Rattle.mesh.specs.inside.Manifold.{cornerAt, edgeRow, linkRow, filled, two, KeptBelow}
 use Rattle.mesh.proofs.Laws.Manifold.Fill.{fill-front, fill-turn}
 use Rattle.mesh.proofs.Laws.Manifold.RowRuns.{run-first, run-turn}
 use Rattle.mesh.proofs.Laws.Parts.{zero-word}

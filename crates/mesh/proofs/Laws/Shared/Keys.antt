@@ -8,13 +8,14 @@ use lib.ListN.{take}
 use Rattle.geometry.specs.declared.point.Point.{Point}
 use Rattle.mesh.specs.declared.element.Triple.{Triple}
 use Rattle.mesh.specs.declared.element.Tet.{Tet}
-use Rattle.mesh.specs.Sort.{sort, unique, elem, before, headed, ordered}
-use Rattle.mesh.specs.Rows.{leRow, eqRow}
+use Rattle.mesh.specs.Sort.{sort, unique}
+use Rattle.mesh.specs.inside.Sort.{elem, before, headed, ordered}
+use Rattle.mesh.specs.inside.Rows.{leRow, eqRow}
 use Rattle.mesh.specs.Complex.{keep}
 use Rattle.mesh.specs.Element.{facesOf, keyOf, cornersOf}
 use Rattle.mesh.specs.Boundary.{sameTriple, leTriple, allFaces}
-use Rattle.mesh.specs.Group.{sameFirst}
-use Rattle.mesh.specs.List.{badIn}
+use Rattle.mesh.specs.inside.Group.{sameFirst}
+use Rattle.mesh.specs.inside.List.{badIn}
 use Rattle.mesh.proofs.Laws.Bools.{split, and-intro, and-left, and-right}
 use Rattle.mesh.proofs.Laws.Sort.{ordered-sort, elem-sort}
 use Rattle.mesh.proofs.Laws.Unique.{elem-unique, unique-rising, rising-unique, before-trans}
@@ -23,7 +24,7 @@ use Rattle.mesh.proofs.Laws.SortedRows.{sorted-rows-unique}
 use Rattle.mesh.proofs.Laws.Boundary.Order.{triple-trans, triple-total, triple-anti, same-refl, same-sound, eq-corners, sort-corners}
 use Rattle.mesh.proofs.Laws.Manifold.Kept.{headed-kept}
 use Rattle.mesh.proofs.Laws.Group.Images.{unique-map, ordered-map, count-sort-map}
-use Rattle.mesh.specs.Shared.{badKeys, ownedRow, badMark, ownedFrom}
+use Rattle.mesh.specs.inside.Shared.{badKeys, ownedRow, badMark, ownedFrom}
 use Rattle.mesh.proofs.Laws.Shared.Rows.{elem-append}
 
 -- ---- the keys of the runs

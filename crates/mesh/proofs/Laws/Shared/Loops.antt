@@ -10,16 +10,16 @@ use Rattle.geometry.specs.declared.point.Point.{Point}
 use Rattle.mesh.specs.declared.element.Triple.{Triple}
 use Rattle.mesh.specs.declared.element.Tet.{Tet}
 use Rattle.mesh.specs.Element.{tet, tets, facesOf, faceOf, keyOf, cornersOf}
-use Rattle.mesh.specs.Intake.{tetAt}
+use Rattle.mesh.specs.inside.Intake.{tetAt}
 use Rattle.mesh.specs.Group.{numbers}
-use Rattle.mesh.specs.Manifold.{filled, KeptBelow}
-use Rattle.mesh.specs.List.{stacked, Pushed}
+use Rattle.mesh.specs.inside.Manifold.{filled, KeptBelow}
+use Rattle.mesh.specs.inside.List.{stacked, Pushed}
 use Rattle.mesh.proofs.Laws.Rows.{Shape, none, more}
 use Rattle.mesh.proofs.Laws.Manifold.Fill.{fill-start, fill-turn, fill-kept}
 use Rattle.mesh.proofs.Laws.Intake.Reads.{length-tets, tets-at}
 use Rattle.mesh.proofs.Laws.Euler.Areas.{tet-kept}
 use Rattle.mesh.proofs.Laws.List.Push.{push-start, push-kept, push-more, shape-append}
-use Rattle.mesh.specs.Shared.{ownedRow, badMark, ownedFrom}
+use Rattle.mesh.specs.inside.Shared.{ownedRow, badMark, ownedFrom}
 
 pub put-five : (s : List ℕ) (p a b c d e : ℕ) → p + 5 ≤ length s
     → set (set (set (set (set s p a) (p + 1) b) (p + 2) c) (p + 3) d) (p + 4) e ≡ paste s p (a ∷ b ∷ c ∷ d ∷ e ∷ []) 5

@@ -10,7 +10,8 @@ use lib.ListN.{length, getD, length-append}
 use lib.Seq.{getD-append-seam}
 use Rattle.mesh.specs.declared.element.Triple.{Triple}
 use Rattle.mesh.specs.declared.element.Tet.{Tet}
-use Rattle.mesh.specs.Complex.{sub, keep, star, Nodup}
+use Rattle.mesh.specs.Complex.{sub, keep, Nodup}
+use Rattle.mesh.specs.inside.Complex.{star}
 use Rattle.mesh.specs.Element.{facesOf, keyOf, cornersOf, verticesOf}
 use Rattle.mesh.specs.Boundary.{sameTriple, allFaces}
 use Rattle.mesh.specs.Group.{numbers}
@@ -18,7 +19,7 @@ use Rattle.mesh.proofs.Laws.Bools.{split}
 use Rattle.mesh.proofs.Laws.Complex.Sums.{bit}
 use Rattle.mesh.proofs.Laws.Link.Simplices.{rising}
 use Rattle.mesh.proofs.Laws.Link.Keys.{Fours, keep-cons, times-star}
-use Rattle.mesh.specs.Shared.{ownersFrom, owners}
+use Rattle.mesh.specs.inside.Shared.{ownersFrom, owners}
 
 -- has the element i all of these vertices
 abbrev pub holds : List ℕ → List Tet → Tet → ℕ → Bool

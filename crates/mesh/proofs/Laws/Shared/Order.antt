@@ -10,12 +10,12 @@ use borrow.Author.Tests.{lt-ltb, le-ltb}
 use Rattle.geometry.specs.declared.point.Point.{Point}
 use Rattle.mesh.specs.declared.element.Triple.{Triple}
 use Rattle.mesh.specs.declared.element.Tet.{Tet}
-use Rattle.mesh.specs.Rows.{leRow}
+use Rattle.mesh.specs.inside.Rows.{leRow}
 use Rattle.mesh.specs.Element.{facesOf, keyOf, cornersOf}
-use Rattle.mesh.specs.Group.{sameFirst}
+use Rattle.mesh.specs.inside.Group.{sameFirst}
 use Rattle.mesh.proofs.Laws.Rows.{leRow-refl, eqRow-sound}
 use Rattle.mesh.proofs.Laws.Manifold.Kept.{Steady, none, more}
-use Rattle.mesh.specs.Shared.{ownedRow, badMark, ownedFrom}
+use Rattle.mesh.specs.inside.Shared.{ownedRow, badMark, ownedFrom}
 
 le-prefix : (a b c : List ℕ) → leRow (a ++ b) (a ++ c) ≡ leRow b c
 unfolding leRow

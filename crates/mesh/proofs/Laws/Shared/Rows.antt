@@ -12,20 +12,20 @@ use lib.Seq.{getD-take}
 use Rattle.geometry.specs.declared.point.Point.{Point}
 use Rattle.mesh.specs.declared.element.Triple.{Triple}
 use Rattle.mesh.specs.declared.element.Tet.{Tet}
-use Rattle.mesh.specs.Sort.{elem}
-use Rattle.mesh.specs.Rows.{eqRow}
+use Rattle.mesh.specs.inside.Sort.{elem}
+use Rattle.mesh.specs.inside.Rows.{eqRow}
 use Rattle.mesh.specs.Complex.{keep}
 use Rattle.mesh.specs.Tests.{every}
 use Rattle.mesh.specs.Element.{facesOf, keyOf, cornersOf}
 use Rattle.mesh.specs.Boundary.{sameTriple, allFaces}
-use Rattle.mesh.specs.List.{badIn}
+use Rattle.mesh.specs.inside.List.{badIn}
 use Rattle.mesh.proofs.Laws.Bools.{split, and-left}
 use Rattle.mesh.proofs.Laws.Rows.{eqRow-sound}
 use Rattle.mesh.proofs.Laws.Boundary.Same.{keep-same, keep-map}
 use Rattle.mesh.proofs.Laws.Boundary.Order.{eq-corners}
 use Rattle.mesh.proofs.Laws.Group.Images.{map-map}
 use Rattle.mesh.proofs.Laws.List.Push.{keep-append}
-use Rattle.mesh.specs.Shared.{ownersFrom, ownedRow, badMark, ownedFrom, runRow}
+use Rattle.mesh.specs.inside.Shared.{ownersFrom, ownedRow, badMark, ownedFrom, runRow}
 
 -- ---- lists
 

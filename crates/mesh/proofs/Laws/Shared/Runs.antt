@@ -10,15 +10,15 @@ use Rattle.geometry.specs.declared.point.Point.{Point}
 use Rattle.mesh.specs.declared.element.Triple.{Triple}
 use Rattle.mesh.specs.declared.element.Tet.{Tet}
 use Rattle.mesh.specs.Sort.{sort, unique}
-use Rattle.mesh.specs.Rows.{leRow, eqRow}
+use Rattle.mesh.specs.inside.Rows.{leRow, eqRow}
 use Rattle.mesh.specs.Complex.{keep}
 use Rattle.mesh.specs.Element.{cornersOf}
-use Rattle.mesh.specs.Group.{runs, sameFirst}
+use Rattle.mesh.specs.inside.Group.{runs, sameFirst}
 use Rattle.mesh.proofs.Laws.Bools.{split}
 use Rattle.mesh.proofs.Laws.Boundary.Same.{keep-keep}
 use Rattle.mesh.proofs.Laws.Manifold.RowRuns.{sorted-runs, kept-steady}
 use Rattle.mesh.proofs.Laws.List.Push.{every-kept}
-use Rattle.mesh.specs.Shared.{hasTwo, sharedFaces, sharedRow, ownedFrom, runRow, runsRows}
+use Rattle.mesh.specs.inside.Shared.{hasTwo, sharedFaces, sharedRow, ownedFrom, runRow, runsRows}
 use Rattle.mesh.proofs.Laws.Shared.Rows.{ofKey, owners-kept, marks-kept, run-gives}
 use Rattle.mesh.proofs.Laws.Shared.Order.{steady-owned}
 use Rattle.mesh.proofs.Laws.Shared.Keys.{keysOf, keys-are, inBad, bad-keys}

@@ -9,15 +9,15 @@ use lib.ListN.{length, take, drop, getD, length-drop, drop-of-length-le}
 use lib.Seq.{paste, getD-take, getD-drop, drop-cons, drop-drop}
 use borrow.Author.Tests.{eq-eqb, ne-eqb}
 use Rattle.mesh.specs.Words.{wordAt}
-use Rattle.mesh.specs.Rows.{rows, run, runLength}
-use Rattle.mesh.specs.Group.{runs, sameFirst}
-use Rattle.mesh.specs.Manifold.{KeptBelow}
-use Rattle.mesh.specs.List.{Pushed}
+use Rattle.mesh.specs.inside.Rows.{rows, run, runLength}
+use Rattle.mesh.specs.inside.Group.{runs, sameFirst}
+use Rattle.mesh.specs.inside.Manifold.{KeptBelow}
+use Rattle.mesh.specs.inside.List.{Pushed}
 use Rattle.mesh.proofs.Laws.Rows.{Shape, none, more, length-rows, rows-at, take-rows, drop-rows}
 use Rattle.mesh.proofs.Laws.Manifold.Steps.{rows-below, run-is, run-few}
 use Rattle.mesh.proofs.Laws.Manifold.RowRuns.{run-first, run-turn}
 use Rattle.mesh.proofs.Laws.List.Push.{push-start, push-one, push-kept, push-more, shape-append}
-use Rattle.mesh.specs.Shared.{wordOf, oneBad, runRow, runsRows}
+use Rattle.mesh.specs.inside.Shared.{wordOf, oneBad, runRow, runsRows}
 
 -- ---- one run
 

@@ -9,19 +9,19 @@ use lib.ListN.{length, take, drop, length-drop}
 use lib.Seq.{paste, length-paste, length-paste-head, take-at}
 use borrow.Author.Tests.{le-leb, lt-leb, leb-true}
 use Rattle.geometry.specs.declared.point.Point.{Point}
-use Rattle.mesh.specs.Words.{zeroWords}
+use Rattle.mesh.specs.Words.{zeroWords, flat}
 use Rattle.mesh.specs.Sort.{sort}
-use Rattle.mesh.specs.Rows.{rows, flat, leRow, sortedArea}
+use Rattle.mesh.specs.inside.Rows.{rows, leRow, sortedArea}
 use Rattle.mesh.specs.Element.{tets}
-use Rattle.mesh.specs.Group.{runs, sameFirst}
-use Rattle.mesh.specs.Manifold.{KeptBelow}
-use Rattle.mesh.specs.List.{Pushed}
+use Rattle.mesh.specs.inside.Group.{runs, sameFirst}
+use Rattle.mesh.specs.inside.Manifold.{KeptBelow}
+use Rattle.mesh.specs.inside.List.{Pushed}
 use Rattle.mesh.proofs.Laws.Bools.{and-left, and-right}
 use Rattle.mesh.proofs.Laws.Rows.{Shape, length-flat}
 use Rattle.mesh.proofs.Laws.Manifold.Growth.{kept-both}
 use Rattle.mesh.proofs.Laws.Manifold.Steps.{kept-less, sort-kept, sort-from-rows}
 use Rattle.mesh.proofs.Laws.List.Push.{push-kept, push-rows, push-behind}
-use Rattle.mesh.specs.Shared.{sharedFaces, sharedRow, sharedFits, Shares, sharedIn, ownedFrom, runsRows}
+use Rattle.mesh.specs.inside.Shared.{sharedFaces, sharedRow, sharedFits, Shares, sharedIn, ownedFrom, runsRows}
 use Rattle.mesh.proofs.Laws.Shared.Runs.{runs-shared}
 use Rattle.mesh.proofs.Laws.Shared.Loops.{shape-owned}
 use Rattle.mesh.proofs.Laws.Shared.Scan.{shape-runs}

@@ -12,7 +12,7 @@ use Rattle.geometry.specs.Float.{_+₆₄_, _*₆₄_}
 use Rattle.geometry.specs.Units.{NotNegative}
 use Rattle.geometry.specs.Root.{operand, exactRoot, rounded, rootOf, sqrt}
 use Rattle.geometry.specs.Point.{difference, dot, norm}
-use Rattle.geometry.specs.Word.{orderBits}
+use Rattle.geometry.specs.inside.Word.{orderBits}
 use Rattle.geometry.proofs.Laws.Float.Sign.{Signed}
 use Rattle.geometry.proofs.Laws.Root.Rounding.{halves}
 use Rattle.geometry.proofs.Laws.Score.Quality.{sqrt-signed}

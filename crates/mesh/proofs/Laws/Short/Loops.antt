@@ -13,15 +13,15 @@ use Rattle.mesh.specs.declared.element.Pair.{Pair}
 use Rattle.mesh.specs.declared.element.Tet.{Tet}
 use Rattle.mesh.specs.Complex.{keep}
 use Rattle.mesh.specs.Element.{pair, tet, tets}
-use Rattle.mesh.specs.Intake.{tetAt}
-use Rattle.mesh.specs.Manifold.{KeptBelow}
-use Rattle.mesh.specs.Euler.{endsOf, endsAt}
-use Rattle.mesh.specs.List.{badIn, edgesOf, allEdges, Pushed}
+use Rattle.mesh.specs.inside.Intake.{tetAt}
+use Rattle.mesh.specs.inside.Manifold.{KeptBelow}
+use Rattle.mesh.specs.inside.Euler.{endsOf, endsAt}
+use Rattle.mesh.specs.inside.List.{badIn, edgesOf, allEdges, Pushed}
 use Rattle.mesh.proofs.Laws.Boundary.Same.{length-keep}
 use Rattle.mesh.proofs.Laws.Intake.Reads.{length-tets, tets-at}
 use Rattle.mesh.proofs.Laws.Euler.Areas.{tet-kept}
 use Rattle.mesh.proofs.Laws.List.Push.{push-start, push-kept, push-more, keep-append}
-use Rattle.mesh.specs.Short.{shortRows}
+use Rattle.mesh.specs.inside.Short.{shortRows}
 use Rattle.mesh.proofs.Laws.Short.Push.{shape-short, short-append, short-few, no-rows}
 
 -- an edge with its smaller vertex first

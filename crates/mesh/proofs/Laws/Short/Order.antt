@@ -9,15 +9,15 @@ use lib.Ieee.{Float, lt}
 use borrow.Author.Tests.{eq-eqb, eqb-true}
 use Rattle.geometry.specs.declared.point.Point.{Point}
 use Rattle.geometry.specs.Point.{difference, norm}
-use Rattle.geometry.specs.Word.{orderBits}
+use Rattle.geometry.specs.inside.Word.{orderBits}
 use Rattle.mesh.specs.declared.element.Pair.{Pair}
 use Rattle.mesh.specs.Words.{pointAt}
 use Rattle.mesh.specs.Sort.{insert, sort, unique}
-use Rattle.mesh.specs.Rows.{leRow, eqRow}
+use Rattle.mesh.specs.inside.Rows.{leRow, eqRow}
 use Rattle.mesh.specs.Complex.{keep}
 use Rattle.mesh.specs.Tests.{every}
-use Rattle.mesh.specs.Element.{samePair}
-use Rattle.mesh.specs.List.{lePair, setOf}
+use Rattle.mesh.specs.Element.{samePair, lePair}
+use Rattle.mesh.specs.inside.List.{setOf}
 use Rattle.mesh.proofs.Laws.Bools.{split, and-left, and-right}
 use Rattle.mesh.proofs.Laws.Manifold.Kept.{every-sort}
 use Rattle.mesh.proofs.Laws.Group.Ranks.{le-two, eq-two}
@@ -25,7 +25,7 @@ use Rattle.mesh.proofs.Laws.Group.Images.{unique-map}
 use Rattle.mesh.proofs.Laws.List.Push.{every-kept}
 use Rattle.mesh.proofs.Laws.List.Meaning.{pairRow, le-pair, eq-pair}
 use Rattle.mesh.specs.Measure.{lengthOf}
-use Rattle.mesh.specs.Short.{short, leEdge, edgeRow, shortRows}
+use Rattle.mesh.specs.inside.Short.{short, leEdge, edgeRow, shortRows}
 use Rattle.mesh.proofs.Laws.Short.Lengths.{bits-lt}
 
 -- ---- a sort of images, where the tests agree on elements that pass p

@@ -8,15 +8,15 @@ use lib.Ieee.{Float, lt}
 use lib.ListN.{length}
 use lib.Seq.{paste}
 use Rattle.geometry.specs.declared.point.Point.{Point}
-use Rattle.geometry.specs.Word.{orderBits}
+use Rattle.geometry.specs.inside.Word.{orderBits}
 use Rattle.mesh.specs.declared.element.Pair.{Pair}
 use Rattle.mesh.specs.Complex.{keep}
-use Rattle.mesh.specs.List.{Pushed}
+use Rattle.mesh.specs.inside.List.{Pushed}
 use Rattle.mesh.proofs.Laws.Rows.{Shape, none, more}
 use Rattle.mesh.proofs.Laws.Boundary.Same.{length-keep, length-map}
 use Rattle.mesh.proofs.Laws.List.Push.{push-start, push-one, keep-append}
 use Rattle.mesh.specs.Measure.{lengthOf}
-use Rattle.mesh.specs.Short.{short, edgeRow, shortRows}
+use Rattle.mesh.specs.inside.Short.{short, edgeRow, shortRows}
 
 module _ (ps : List Point) (limit : Float) where
   shape-map : (es : List Pair) → Shape 4 (length (map (edgeRow ps) es)) (map (edgeRow ps) es)

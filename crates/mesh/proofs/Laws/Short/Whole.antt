@@ -9,14 +9,14 @@ use lib.Ieee.{Float}
 use lib.ListN.{length, take, drop}
 use borrow.Author.Tests.{le-leb, lt-leb, leb-true}
 use Rattle.geometry.specs.declared.point.Point.{Point}
-use Rattle.mesh.specs.Words.{zeroWords}
-use Rattle.mesh.specs.Rows.{rows, flat}
+use Rattle.mesh.specs.Words.{zeroWords, flat}
+use Rattle.mesh.specs.inside.Rows.{rows}
 use Rattle.mesh.specs.Complex.{keep}
 use Rattle.mesh.specs.Element.{tets}
-use Rattle.mesh.specs.Manifold.{KeptBelow}
-use Rattle.mesh.specs.List.{badIn, allEdges, setOf, Pushed}
+use Rattle.mesh.specs.inside.Manifold.{KeptBelow}
+use Rattle.mesh.specs.inside.List.{badIn, allEdges, setOf, Pushed}
 use Rattle.mesh.proofs.Laws.Bools.{and-left, and-right}
-use Rattle.mesh.specs.Short.{shortEdges, edgeRow, shortFits, Shorts, shortIn, shortRows}
+use Rattle.mesh.specs.inside.Short.{shortEdges, edgeRow, shortFits, Shorts, shortIn, shortRows}
 use Rattle.mesh.proofs.Laws.Short.Order.{set-rows}
 use Rattle.mesh.proofs.Laws.List.Push.{push-kept, push-rows}
 use Rattle.mesh.proofs.Laws.Short.Push.{shape-short}

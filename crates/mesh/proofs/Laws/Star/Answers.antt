@@ -9,7 +9,7 @@ use lib.Seq.{take-at, take-take}
 use borrow.Author.Tests.{eq-eqb, ne-eqb}
 use Rattle.mesh.specs.declared.star.Index.{Index}
 use Rattle.mesh.specs.Words.{wordAt}
-use Rattle.mesh.specs.Star.{lengthOf, Laid, Free, roomFor, second, slotsMet, slotsAbout, starRoom, starList, starred, othersMet, neighbourRoom, neighbourList, neighboured, distinct, written, listed}
+use Rattle.mesh.specs.inside.Star.{lengthOf, Laid, Free, roomFor, second, slotsMet, slotsAbout, starRoom, starList, starred, othersMet, neighbourRoom, neighbourList, neighboured, distinct, written, listed}
 use Rattle.mesh.proofs.Laws.Star.Layout.{room-is}
 use Rattle.mesh.proofs.Laws.Star.Written.{length-written, written-below, written-behind, written-part, written-more, written-over}
 use Rattle.mesh.proofs.Laws.Star.Chains.{length-kept}

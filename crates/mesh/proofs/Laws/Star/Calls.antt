@@ -13,7 +13,7 @@ use Rattle.mesh.specs.declared.element.Tet.{Tet}
 use Rattle.mesh.specs.declared.star.Index.{Index}
 use Rattle.mesh.specs.Words.{wordAt}
 use Rattle.mesh.specs.Element.{tets}
-use Rattle.mesh.specs.Star.{starOf, neighboursOf, cornerAt, lengthOf, Complete, Laid, slotsAbout, starRoom, starList, starred, othersMet, neighbourRoom, neighbourList, neighboured, distinct, listed}
+use Rattle.mesh.specs.inside.Star.{starOf, neighboursOf, cornerAt, lengthOf, Complete, Laid, slotsAbout, starRoom, starList, starred, othersMet, neighbourRoom, neighbourList, neighboured, distinct, listed}
 use Rattle.mesh.proofs.Laws.Star.Layout.{room-is}
 use Rattle.mesh.proofs.Laws.Star.Chains.{complete-kept}
 use Rattle.mesh.proofs.Laws.Star.Found.{star-room, star-found, neighbour-room, neighbours-found}

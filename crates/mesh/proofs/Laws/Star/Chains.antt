@@ -10,7 +10,7 @@ use borrow.Author.Tests.{lt-ltb, le-ltb}
 use Rattle.mesh.specs.declared.star.Index.{Index}
 use Rattle.mesh.specs.Words.{wordAt}
 use Rattle.mesh.specs.Complex.{mem, upTo, Nodup}
-use Rattle.mesh.specs.Star.{walk, cornerAt, nextOf, headOf, lengthOf, chainOf, Covers, Chains, Complete, Laid}
+use Rattle.mesh.specs.inside.Star.{walk, cornerAt, nextOf, headOf, lengthOf, chainOf, Covers, Chains, Complete, Laid}
 use Rattle.mesh.proofs.Laws.Parts.{side}
 use Rattle.mesh.proofs.Laws.Complex.Sets.{clash, nope, mem-here, mem-there, mem-cases, mem-nil, short}
 use Rattle.mesh.proofs.Laws.Complex.Tets.{upTo-mem}

@@ -10,7 +10,7 @@ use borrow.Author.Tests.{eq-eqb, ne-eqb}
 use Rattle.mesh.specs.declared.star.Index.{Index}
 use Rattle.mesh.specs.Words.{wordAt}
 use Rattle.mesh.specs.Complex.{mem}
-use Rattle.mesh.specs.Star.{walk, gather, cornerAt, cornersAt, nextOf, headOf, lengthOf, chainOf, butFor, slotIf, othersIf, slotsMet, othersMet, written, Laid, Free}
+use Rattle.mesh.specs.inside.Star.{walk, gather, cornerAt, cornersAt, nextOf, headOf, lengthOf, chainOf, butFor, slotIf, othersIf, slotsMet, othersMet, written, Laid, Free}
 use Rattle.mesh.proofs.Laws.Rows.{one-row}
 use Rattle.mesh.proofs.Laws.Complex.Sets.{mem-here, mem-there}
 use Rattle.mesh.proofs.Laws.Star.Walks.{walk-yes, walk-no, walk-none, walk-short}

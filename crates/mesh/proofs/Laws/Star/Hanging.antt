@@ -15,7 +15,7 @@ use borrow.Author.Tests.{lt-ltb, ltb-true, le-leb, eqb-true, eqb-false}
 use Rattle.mesh.specs.declared.star.Index.{Index}
 use Rattle.mesh.specs.Words.{wordAt}
 use Rattle.mesh.specs.Complex.{mem, Nodup}
-use Rattle.mesh.specs.Star.{walk, cornerAt, nextOf, headOf, lengthOf, chainOf, Chains, Complete, Laid, Outside, written, setChain, pushed, hung, hungAll, hasSlots, appended, built}
+use Rattle.mesh.specs.inside.Star.{walk, cornerAt, nextOf, headOf, lengthOf, chainOf, Chains, Complete, Laid, Outside, written, setChain, pushed, hung, hungAll, hasSlots, appended, built}
 use Rattle.mesh.proofs.Laws.Parts.{side}
 use Rattle.mesh.proofs.Laws.Complex.Sets.{split, clash, nope, mem-here, mem-there, mem-cases, mem-nil}
 use Rattle.mesh.proofs.Laws.Star.Walks.{walk-yes, walk-same}

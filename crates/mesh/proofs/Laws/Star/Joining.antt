@@ -13,7 +13,7 @@ use borrow.Author.Tests.{lt-ltb, le-ltb, le-leb, eqb-true, eqb-false, ne-eqb}
 use Rattle.mesh.specs.declared.star.Index.{Index}
 use Rattle.mesh.specs.Words.{wordAt}
 use Rattle.mesh.specs.Complex.{mem, Nodup}
-use Rattle.mesh.specs.Star.{walk, stepped, cornerAt, nextOf, headOf, lengthOf, chainOf, Covers, Chains, Complete, Laid, Outside, setChain, mayJoin, joined}
+use Rattle.mesh.specs.inside.Star.{walk, stepped, cornerAt, nextOf, headOf, lengthOf, chainOf, Covers, Chains, Complete, Laid, Outside, setChain, mayJoin, joined}
 use Rattle.mesh.proofs.Laws.Parts.{side}
 use Rattle.mesh.proofs.Laws.Complex.Sets.{split, mem-nil}
 use Rattle.mesh.proofs.Laws.Star.Walks.{walk-on, walk-same, walk-entry, last-stands, last-changed}

@@ -8,7 +8,7 @@ use lib.Dec.{leb}
 use borrow.Author.Tests.{leb-true, leb-false, le-leb, lt-leb}
 use Rattle.mesh.specs.declared.star.Index.{Index}
 use Rattle.mesh.specs.Words.{inside}
-use Rattle.mesh.specs.Star.{Laid, laid, roomFor, hasSlots}
+use Rattle.mesh.specs.inside.Star.{Laid, laid, roomFor, hasSlots}
 use Rattle.mesh.proofs.Laws.Bools.{split, and-left, and-right}
 
 pub laid-is : (x : Index) (m : ℕ) → laid x m ≡ true → Laid x m

@@ -10,10 +10,11 @@ use lib.Dec.{leb}
 use lib.ListN.{length, getD}
 use borrow.Author.Tests.{lt-leb}
 use Rattle.mesh.specs.declared.element.Tet.{Tet}
-use Rattle.mesh.specs.Sort.{before, headed, ordered}
+use Rattle.mesh.specs.inside.Sort.{before, headed, ordered}
 use Rattle.mesh.specs.Complex.{mem, keep}
-use Rattle.mesh.specs.Star.{has, starFrom}
-use Rattle.mesh.specs.About.{any, passFrom}
+use Rattle.mesh.specs.inside.Star.{has, starFrom}
+use Rattle.mesh.specs.inside.About.{passFrom}
+use Rattle.mesh.specs.Tests.{any}
 use Rattle.mesh.proofs.Laws.Bools.{split, and-intro}
 use Rattle.mesh.proofs.Laws.Complex.Sets.{clash, or-cases, or-left, or-right, mem-here, mem-there, mem-cases, mem-nil}
 

@@ -10,7 +10,7 @@ use lib.Dec.{ltb}
 use lib.ListN.{length}
 use borrow.Author.Tests.{lt-ltb, le-ltb, ltb-true}
 use Rattle.mesh.specs.Complex.{mem, Nodup}
-use Rattle.mesh.specs.Star.{walk, stepped}
+use Rattle.mesh.specs.inside.Star.{walk, stepped}
 use Rattle.mesh.proofs.Laws.Complex.Sets.{mem-here, mem-there, mem-cases, mem-nil, apart}
 
 module _ (room : ℕ) where

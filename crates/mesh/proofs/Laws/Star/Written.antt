@@ -7,7 +7,7 @@ use native.Mathlib.Numerals.{add-one}
 use native.Mathlib.Omega.{arith}
 use lib.ListN.{length, take, drop, getD, set, length-append, length-drop, take-append-drop, List·getD-append}
 use lib.Seq.{length-take-le, take-at, drop-at, drop-drop, getD-take, getD-drop, getD-append-add, set-split}
-use Rattle.mesh.specs.Star.{written}
+use Rattle.mesh.specs.inside.Star.{written}
 
 module _ (s : List ℕ) (k : ℕ) (l : List ℕ) (h : k + length l ≤ length s) where
   front : length (take k s ++ l) ≡ k + length l

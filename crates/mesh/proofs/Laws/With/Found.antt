@@ -12,10 +12,11 @@ use lib.ListN.{length, getD, drop}
 use Rattle.mesh.specs.declared.element.Tet.{Tet}
 use Rattle.mesh.specs.declared.star.Index.{Index}
 use Rattle.mesh.specs.Complex.{mem, sub}
-use Rattle.mesh.specs.Element.{tets}
-use Rattle.mesh.specs.Star.{goneTet, cornersAt, lengthOf, chainOf, Complete, Laid, distinct, listed}
-use Rattle.mesh.specs.About.{any, passFrom}
-use Rattle.mesh.specs.With.{hasAll, rarer, entryHas, withIf, withMet, anyWith, withRoom, withList, withIn}
+use Rattle.mesh.specs.Element.{tets, hasAll}
+use Rattle.mesh.specs.inside.Star.{goneTet, cornersAt, lengthOf, chainOf, Complete, Laid, distinct, listed}
+use Rattle.mesh.specs.inside.About.{passFrom}
+use Rattle.mesh.specs.Tests.{any}
+use Rattle.mesh.specs.inside.With.{rarer, entryHas, withIf, withMet, anyWith, withRoom, withList, withIn}
 use Rattle.mesh.proofs.Laws.Complex.Sets.{split, clash, same, or-cases, or-left, or-right, mem-here, mem-there, mem-cases, mem-nil, sub-elim}
 use Rattle.mesh.proofs.Laws.Star.Layout.{room-yes}
 use Rattle.mesh.proofs.Laws.Star.Chains.{one-short}

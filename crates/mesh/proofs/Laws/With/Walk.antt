@@ -11,9 +11,9 @@ use borrow.Author.Tests.{le-leb, lt-leb}
 use Rattle.mesh.specs.declared.star.Index.{Index}
 use Rattle.mesh.specs.Words.{wordAt}
 use Rattle.mesh.specs.Complex.{mem, sub}
-use Rattle.mesh.specs.Star.{walk, gather, cornersAt, nextOf, headOf, lengthOf, chainOf, Laid, Free, roomFor, distinct, written, listed}
-use Rattle.mesh.specs.About.{any}
-use Rattle.mesh.specs.With.{rarer, entryHas, withIf, withMet, anyWith, withRoom, withList, withIn}
+use Rattle.mesh.specs.inside.Star.{walk, gather, cornersAt, nextOf, headOf, lengthOf, chainOf, Laid, Free, roomFor, distinct, written, listed}
+use Rattle.mesh.specs.Tests.{any}
+use Rattle.mesh.specs.inside.With.{rarer, entryHas, withIf, withMet, anyWith, withRoom, withList, withIn}
 use Rattle.mesh.proofs.Laws.Star.Layout.{room-is}
 use Rattle.mesh.proofs.Laws.Star.Walks.{walk-yes, walk-no, walk-none}
 use Rattle.mesh.proofs.Laws.Star.Written.{length-written}

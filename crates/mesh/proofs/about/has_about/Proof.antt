@@ -2,7 +2,7 @@
 use mathlib.Core.Path.{sym, ap, _∙_}
 use native.Mathlib.Omega.{arith}
 use borrow.Author.Tests.{not-true, not-false}
-use Rattle.mesh.specs.Star.{lengthOf}
+use Rattle.mesh.specs.inside.Star.{lengthOf}
 use Rattle.mesh.proofs.Laws.Star.Layout.{laid-is}
 use Rattle.mesh.proofs.Laws.About.Members.{Summing, sum-start, about-no, sum-blocked, sum-full, sum-turn, sum-end}
 use borrow.Author.Needs.{needs}

@@ -1,7 +1,7 @@
 -- `mesh::about::put_about` meets its contract. The invariant: the slots put and those of the members left are all. Assumes nothing.
 use mathlib.Core.Path.{refl}
 use native.Mathlib.Omega.{arith}
-use Rattle.mesh.specs.About.{members, slotsOf}
+use Rattle.mesh.specs.inside.About.{members, slotsOf}
 use Rattle.mesh.proofs.Laws.About.Answer.{Putting, about-room, put-start, put-long, put-free, put-count, put-turn, put-end}
 use borrow.Author.Needs.{needs}
 use Rattle.mesh.proofs.about.put_about.Statement.{statement}

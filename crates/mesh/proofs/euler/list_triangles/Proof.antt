@@ -4,9 +4,9 @@ use Prim.Native.Nat.{ℕ, _-_, _*_, _≤_}
 use native.Mathlib.Omega.{arith}
 use lib.ListN.{length}
 use Rattle.mesh.specs.Element.{keyOf}
-use Rattle.mesh.specs.Manifold.{filled}
+use Rattle.mesh.specs.inside.Manifold.{filled}
 use Rattle.mesh.proofs.Laws.Manifold.Fill.{fill-start}
-use Rattle.mesh.specs.Euler.{triangleRowAt}
+use Rattle.mesh.specs.inside.Euler.{triangleRowAt}
 use Rattle.mesh.proofs.Laws.Euler.Areas.{triangles-turn}
 use borrow.Author.Needs.{needs}
 use Rattle.mesh.proofs.euler.list_triangles.Statement.{statement}
@@ -37,14 +37,14 @@ tet-face-requires c κs = search needs
 face-key-requires : tie.Need-face-key-requires Inv-loop μ-loop
 face-key-requires c κs = search needs
 
-mul-put-triangle : tie.Need-mul-put-triangle Inv-loop μ-loop
-mul-put-triangle c = search needs
+mul-put-triple : tie.Need-mul-put-triple Inv-loop μ-loop
+mul-put-triple c = search needs
 
-add-put-triangle : tie.Need-add-put-triangle Inv-loop μ-loop
-add-put-triangle c = search needs
+add-put-triple : tie.Need-add-put-triple Inv-loop μ-loop
+add-put-triple c = search needs
 
-put-triangle-requires : tie.Need-put-triangle-requires Inv-loop μ-loop
-put-triangle-requires c κs = search needs
+put-triple-requires : tie.Need-put-triple-requires Inv-loop μ-loop
+put-triple-requires c κs = search needs
 
 add-j : tie.Need-add-j Inv-loop μ-loop
 add-j c = search needs
@@ -53,7 +53,7 @@ loop-less : tie.Need-loop-less Inv-loop μ-loop
 loop-less c = search needs
 
 loop-again : tie.Need-loop-again Inv-loop μ-loop
-loop-again c = let a = (c .before .before .before .before .before .before .before .before .before .before .before .args) in (omega arith, c .before .before .put-triangle .kept .0 ∙ c .before .before .before .before .before .before .before .before .before .loop .inv .1, triangles-turn (a .n) (c .before .before .before .before .before .before .before .before .before .loop .j) (a .area .now) (c .before .before .before .before .before .before .before .before .before .loop .area) (c .before .before .put-triangle .last .0) (c .before .before .before .before .before .before .before .before .before .before .before .pre .1) (c .before .before .before .before .before .before .before .before .loop-test .taken) (c .before .before .before .before .before .before .tet-at .result) (c .before .before .before .before .face-key .result) (c .before .before .before .before .before .before .before .before .before .loop .inv .2) (c .before .before .before .before .before .before .tet-at .ensures) (c .before .before .before .before .face-key .ensures ∙ ap keyOf (c .before .before .before .before .before .tet-face .ensures)) (c .before .before .put-triangle .ensures))
+loop-again c = let a = (c .before .before .before .before .before .before .before .before .before .before .before .args) in (omega arith, c .before .before .put-triple .kept .0 ∙ c .before .before .before .before .before .before .before .before .before .loop .inv .1, triangles-turn (a .n) (c .before .before .before .before .before .before .before .before .before .loop .j) (a .area .now) (c .before .before .before .before .before .before .before .before .before .loop .area) (c .before .before .put-triple .last .0) (c .before .before .before .before .before .before .before .before .before .before .before .pre .1) (c .before .before .before .before .before .before .before .before .loop-test .taken) (c .before .before .before .before .before .before .tet-at .result) (c .before .before .before .before .face-key .result) (c .before .before .before .before .before .before .before .before .before .loop .inv .2) (c .before .before .before .before .before .before .tet-at .ensures) (c .before .before .before .before .face-key .ensures ∙ ap keyOf (c .before .before .before .before .before .tet-face .ensures)) (c .before .before .put-triple .ensures))
 
 same-length : tie.Need-same-length Inv-loop μ-loop
 same-length c = c .before .loop .inv .1
@@ -73,9 +73,9 @@ list-triangles-spec =
     cast-k
     tet-face-requires
     face-key-requires
-    mul-put-triangle
-    add-put-triangle
-    put-triangle-requires
+    mul-put-triple
+    add-put-triple
+    put-triple-requires
     add-j
     loop-less
     loop-again

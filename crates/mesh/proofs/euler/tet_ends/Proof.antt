@@ -1,6 +1,6 @@
 -- `mesh::euler::tet_ends` meets its contract: the tests on k pick the place. Assumes nothing.
 use mathlib.Core.Path.{sym, ap}
-use Rattle.mesh.specs.Euler.{endsAt}
+use Rattle.mesh.specs.inside.Euler.{endsAt}
 use Rattle.mesh.proofs.Laws.Euler.Areas.{ends-last}
 use Rattle.mesh.proofs.euler.tet_ends.Statement.{statement}
 use Rattle.mesh.proofs.euler.tet_ends.Tie as tie

@@ -3,9 +3,9 @@ use mathlib.Core.Path.{_≡_, refl, ap, _∙_}
 use Prim.Native.Nat.{ℕ, _-_, _≤_}
 use native.Mathlib.Omega.{arith}
 use lib.ListN.{length}
-use Rattle.mesh.specs.Manifold.{filled}
+use Rattle.mesh.specs.inside.Manifold.{filled}
 use Rattle.mesh.proofs.Laws.Manifold.Fill.{fill-start}
-use Rattle.mesh.specs.Group.{groupRowAt}
+use Rattle.mesh.specs.inside.Group.{groupRowAt}
 use Rattle.mesh.proofs.Laws.Group.Area.{group-turn}
 use borrow.Author.Needs.{needs}
 use Rattle.mesh.proofs.group.list_groups.Statement.{statement}

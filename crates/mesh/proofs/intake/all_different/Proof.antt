@@ -1,6 +1,6 @@
 -- `mesh::intake::all_different` meets its contract: the rows are filled, sorted, compared and cleared. Assumes nothing.
 use mathlib.Core.Path.{ap, _∙_}
-use Rattle.mesh.specs.Intake.{noneTwice}
+use Rattle.mesh.specs.inside.Intake.{noneTwice}
 use Rattle.mesh.proofs.Laws.Intake.Area.{sorted-rows, area-cleared}
 use borrow.Author.Needs.{needs}
 use Rattle.mesh.proofs.intake.all_different.Statement.{statement}

@@ -3,8 +3,8 @@ use mathlib.Core.Path.{_≡_, refl, sym, _∙_}
 use Prim.Native.Nat.{_+_, _*_, _≤_}
 use native.Mathlib.Omega.{arith}
 use lib.ListN.{length, drop}
-use Rattle.mesh.specs.Rows.{rows}
-use Rattle.mesh.specs.Intake.{noneTwice}
+use Rattle.mesh.specs.inside.Rows.{rows}
+use Rattle.mesh.specs.inside.Intake.{noneTwice}
 use Rattle.mesh.proofs.Laws.Intake.Area.{twice-turn, twice-fail, twice-end}
 use borrow.Author.Needs.{needs}
 use Rattle.mesh.proofs.intake.none_twice.Statement.{statement}

@@ -2,7 +2,7 @@
 use mathlib.Core.Path.{ap, _∙_}
 use lib.Dec.{leb}
 use Rattle.mesh.specs.Sort.{insert, sort}
-use Rattle.mesh.specs.Intake.{vertexRow}
+use Rattle.mesh.specs.inside.Intake.{vertexRow}
 use borrow.Author.Needs.{needs}
 use Rattle.mesh.proofs.intake.rising.Statement.{statement}
 use Rattle.mesh.proofs.intake.rising.Tie as tie

@@ -12,7 +12,7 @@ use Rattle.mesh.proofs.link.all_different.Statement.{statement}
 use Rattle.mesh.proofs.link.all_different.Tie as tie
 use Rattle.mesh.proofs.link.all_different.Reads as reads
 use Rattle.mesh.proofs.link.all_different.Lts as lts
-use Rattle.mesh.proofs.intake.four_different.Reads as four-different-reads
+use Rattle.mesh.proofs.element.four_different.Reads as four-different-reads
 use Rattle.mesh.proofs.vertex.tet_at.Reads as tet-at-reads
 
 abbrev Inv-loop : tie.InvT-loop

@@ -1,17 +1,17 @@
 -- `mesh::link::edge_ok` meets its contract: the three tests, the first that fails decides. Assumes nothing.
 use Rattle.mesh.specs.Words.{pointsOf}
 use Rattle.mesh.specs.Element.{tets}
-use Rattle.mesh.specs.LinkRows.{stratumOf}
+use Rattle.mesh.specs.Feature.{stratumOf}
 use Rattle.mesh.proofs.Laws.Intake.Chains.{fails-by, holds-by}
 use Rattle.mesh.proofs.Laws.LinkRows.Whole.{kept-room, both-kept, edge-rows, boundary-start, feature-start, interior-fails, boundary-fails, feature-decides}
 use Rattle.mesh.proofs.link.edge_ok.Statement.{statement}
 use Rattle.mesh.proofs.link.edge_ok.Tie as tie
 use Rattle.mesh.proofs.link.edge_ok.Reads as reads
 use Rattle.mesh.proofs.link.edge_ok.Lts as lts
-use Rattle.mesh.proofs.link.boundary_ok_in.Reads as boundary-ok-in-reads
-use Rattle.mesh.proofs.link.feature_ok_in.Reads as feature-ok-in-reads
-use Rattle.mesh.proofs.link.interior_ok_in.Reads as interior-ok-in-reads
-use Rattle.mesh.proofs.link.list_boundary.Reads as list-boundary-reads
+use Rattle.mesh.proofs.link.boundary.boundary_ok_in.Reads as boundary-ok-in-reads
+use Rattle.mesh.proofs.link.features.feature_ok_in.Reads as feature-ok-in-reads
+use Rattle.mesh.proofs.link.interior.interior_ok_in.Reads as interior-ok-in-reads
+use Rattle.mesh.proofs.link.boundary.list_boundary.Reads as list-boundary-reads
 
 interior-ok-in-requires : tie.Need-interior-ok-in-requires
 interior-ok-in-requires c κs = (c .before .before .before .before .pre .0)

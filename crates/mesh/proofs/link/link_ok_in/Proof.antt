@@ -1,7 +1,7 @@
 -- `mesh::link::link_ok_in` meets its contract. Assumes nothing.
 use native.Mathlib.Omega.{arith}
 use Rattle.mesh.specs.Words.{pointsOf}
-use Rattle.mesh.specs.LinkRows.{stratumOf}
+use Rattle.mesh.specs.Feature.{stratumOf}
 use Rattle.mesh.proofs.Laws.Intake.Chains.{fails-by, holds-by}
 use Rattle.mesh.proofs.Laws.LinkRows.Whole.{fits-is, in-no, in-yes}
 use borrow.Author.Needs.{needs}
@@ -11,7 +11,7 @@ use Rattle.mesh.proofs.link.link_ok_in.Reads as reads
 use Rattle.mesh.proofs.link.link_ok_in.Lts as lts
 use Rattle.mesh.proofs.link.edge_passes.Reads as edge-passes-reads
 use Rattle.mesh.proofs.link.link_fits.Reads as link-fits-reads
-use Rattle.mesh.proofs.manifold.clear_from.Reads as clear-from-reads
+use Rattle.mesh.proofs.words.clear_from.Reads as clear-from-reads
 
 link-fits-requires : tie.Need-link-fits-requires
 link-fits-requires c κs = search needs

@@ -4,7 +4,7 @@ use native.Mathlib.Omega.{arith}
 use lib.ListN.{length}
 use borrow.Author.Tests.{not-true, not-false}
 use Rattle.mesh.specs.Words.{pointsOf}
-use Rattle.mesh.specs.List.{badEdges}
+use Rattle.mesh.specs.inside.List.{badEdges}
 use Rattle.mesh.proofs.Laws.List.Rows.{fits-is, in-no}
 use Rattle.mesh.proofs.Laws.List.Whole.{edges, few, ready, sortable, listing}
 use borrow.Author.Needs.{needs}

@@ -4,8 +4,8 @@ use mathlib.Core.List.{List, _++_}
 use Prim.Native.Nat.{ℕ, _*_}
 use native.Mathlib.Omega.{arith}
 use lib.ListN.{length, take}
-use Rattle.mesh.specs.Manifold.{filled}
-use Rattle.mesh.specs.Euler.{edgeRowAt}
+use Rattle.mesh.specs.inside.Manifold.{filled}
+use Rattle.mesh.specs.inside.Euler.{edgeRowAt}
 use Rattle.mesh.proofs.Laws.Parts.{tail-mid, tail-put}
 use borrow.Author.Needs.{needs}
 use Rattle.mesh.proofs.list.edges_from.Statement.{statement}

@@ -3,7 +3,7 @@ use mathlib.Core.Path.{sym, _∙_}
 use Prim.Native.Nat.{_-_}
 use native.Mathlib.Omega.{arith}
 use Rattle.mesh.specs.Words.{pointsOf}
-use Rattle.mesh.specs.List.{badIn}
+use Rattle.mesh.specs.inside.List.{badIn}
 use Rattle.mesh.proofs.Laws.List.Bad.{Gathering, gather-start, gather-kept, gather-more, gather-less, gather-end}
 use borrow.Author.Needs.{needs}
 use Rattle.mesh.proofs.list.list_bad.Statement.{statement}

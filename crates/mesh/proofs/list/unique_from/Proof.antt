@@ -3,7 +3,7 @@ use mathlib.Core.Path.{ap, _∙_}
 use mathlib.Core.List.{List, _++_}
 use Prim.Native.Nat.{ℕ}
 use lib.ListN.{length, take}
-use Rattle.mesh.specs.Rows.{uniqueRows, uniqueArea}
+use Rattle.mesh.specs.inside.Rows.{uniqueRows, uniqueArea}
 use Rattle.mesh.proofs.Laws.Parts.{tail-mid, tail-put}
 use borrow.Author.Needs.{needs}
 use Rattle.mesh.proofs.list.unique_from.Statement.{statement}

@@ -4,11 +4,11 @@ use Prim.Native.Nat.{_-_}
 use native.Mathlib.Omega.{arith}
 use lib.ListN.{drop, length-drop}
 use borrow.Author.Tests.{eq-eqb, ne-eqb}
-use Rattle.mesh.specs.Rows.{rows}
+use Rattle.mesh.specs.inside.Rows.{rows}
 use Rattle.mesh.specs.Tests.{every}
 use Rattle.mesh.proofs.Laws.Rows.{length-rows}
-use Rattle.mesh.specs.Group.{runs, sameFirst}
-use Rattle.mesh.specs.Manifold.{two}
+use Rattle.mesh.specs.inside.Group.{runs, sameFirst}
+use Rattle.mesh.specs.inside.Manifold.{two}
 use Rattle.mesh.proofs.Laws.Manifold.Steps.{run-is, two-is, runs-turn, runs-fail, runs-end}
 use borrow.Author.Needs.{needs}
 use Rattle.mesh.proofs.manifold.all_two.Statement.{statement}

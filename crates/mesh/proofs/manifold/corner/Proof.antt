@@ -1,5 +1,5 @@
 -- `mesh::manifold::corner` meets its contract. Assumes nothing.
-use Rattle.mesh.specs.Manifold.{cornerAt}
+use Rattle.mesh.specs.inside.Manifold.{cornerAt}
 use borrow.Author.Needs.{needs}
 use Rattle.mesh.proofs.manifold.corner.Statement.{statement}
 use Rattle.mesh.proofs.manifold.corner.Tie as tie

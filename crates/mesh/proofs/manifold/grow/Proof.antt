@@ -2,7 +2,7 @@
 use Prim.Native.Nat.{_-_, _≤_}
 use native.Mathlib.Omega.{arith}
 use lib.ListN.{take}
-use Rattle.mesh.specs.Manifold.{Grown}
+use Rattle.mesh.specs.inside.Manifold.{Grown}
 use Rattle.mesh.proofs.Laws.Manifold.Growth.{grown-none}
 use Rattle.mesh.proofs.Laws.Manifold.Cycles.{pairsAt, pair-known, grow-turn, grow-end}
 use borrow.Author.Needs.{needs}

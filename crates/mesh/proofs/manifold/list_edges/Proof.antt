@@ -3,7 +3,7 @@ use mathlib.Core.Path.{_≡_, refl, ap, _∙_}
 use Prim.Native.Nat.{ℕ, _-_, _*_, _≤_}
 use native.Mathlib.Omega.{arith}
 use lib.ListN.{length}
-use Rattle.mesh.specs.Manifold.{edgeRow, filled}
+use Rattle.mesh.specs.inside.Manifold.{edgeRow, filled}
 use Rattle.mesh.proofs.Laws.Manifold.Fill.{fill-start}
 use Rattle.mesh.proofs.Laws.Manifold.Steps.{edges-turn}
 use borrow.Author.Needs.{needs}

@@ -1,6 +1,6 @@
 -- `mesh::vertex::tet_at` meets its contract: past the end all four words are 0. Assumes nothing.
 use borrow.Author.Needs.{needs}
-use Rattle.mesh.specs.Intake.{tetAt}
+use Rattle.mesh.specs.inside.Intake.{tetAt}
 use Rattle.mesh.proofs.Laws.Intake.Reads.{tet-past}
 use Rattle.mesh.proofs.vertex.tet_at.Statement.{statement}
 use Rattle.mesh.proofs.vertex.tet_at.Tie as tie

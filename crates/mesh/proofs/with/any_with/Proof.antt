@@ -1,7 +1,7 @@
 -- `mesh::with::any_with` meets its contract. The invariant is `Seeking`: what is left of the chain decides. Assumes nothing.
 use mathlib.Core.Path.{sym, _∙_}
 use mathlib.Core.List.{[], _∷_}
-use Rattle.mesh.specs.With.{anyWith}
+use Rattle.mesh.specs.inside.With.{anyWith}
 use Rattle.mesh.proofs.Laws.With.Walk.{Seeking, seek-start, seek-stop, seek-found, seek-turn, seek-end}
 use borrow.Author.Needs.{needs}
 use Rattle.mesh.proofs.with.any_with.Statement.{statement}

@@ -15,7 +15,7 @@ use Rattle.geometry.specs.declared.point.Point.{Point}
 use Rattle.geometry.specs.Float.{totalFrom, total}
 use Rattle.geometry.proofs.Laws.Rank.Away.{in-float}
 use Rattle.repair.specs.Smooth.{mean}
-use Rattle.repair.specs.Regions.{sum, divided}
+use Rattle.repair.specs.inside.smooth.Candidates.{sum, divided}
 
 -- n is exact as an f64
 pub count-exact : (n : ℕ) → n ≤ 4096 → T (inFloat binary64 (pos n))

@@ -10,7 +10,7 @@ use Rattle.geometry.specs.declared.point.Point.{Point}
 use Rattle.geometry.specs.Literals.{quarter}
 use Rattle.geometry.specs.Point.{difference}
 use Rattle.repair.specs.Smooth.{mean, along, meanCandidates, stepCandidates}
-use Rattle.repair.specs.Regions.{shares, nine, candidateAt}
+use Rattle.repair.specs.inside.smooth.Candidates.{shares, nine, candidateAt}
 
 -- from 2 on
 pub share-last : (k : ℕ) → (k ≡ 0 → ⊥) → (k ≡ 1 → ⊥) → getD shares k quarter ≡ quarter

@@ -18,12 +18,11 @@ use Rattle.geometry.specs.Float.{_*₆₄_}
 use Rattle.geometry.specs.Literals.{half}
 use Rattle.geometry.specs.Point.{difference, norm}
 use Rattle.geometry.specs.Bounds.{spacing}
-use Rattle.mesh.specs.Tests.{every}
+use Rattle.mesh.specs.Tests.{every, any}
 use Rattle.mesh.specs.Intake.{inBox}
 use Rattle.mesh.proofs.Laws.Intake.Chains.{and-on, or-on}
-use Rattle.repair.specs.Mesh.{any}
 use Rattle.repair.specs.Smooth.{chosen, outside, outsideAll}
-use Rattle.repair.specs.Regions.{allowedBy}
+use Rattle.repair.specs.inside.smooth.Candidates.{allowedBy}
 use Rattle.repair.specs.Step.{regionsOf}
 
 -- ---- one of the first n of a list passes a test: what is left from i on is the whole

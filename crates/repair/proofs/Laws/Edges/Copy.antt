@@ -8,7 +8,7 @@ use lib.ListN.{length, set, length-set}
 use lib.Seq.{getD-set-same, getD-set-other}
 use Rattle.mesh.specs.Words.{wordAt}
 use Rattle.mesh.proofs.Laws.Parts.{side}
-use Rattle.repair.specs.Layout.{Same}
+use Rattle.repair.specs.inside.Layout.{Same}
 use Rattle.repair.proofs.Laws.Same.{same-refl, same-trans}
 
 -- j of the k words from i on stand at d, and the rest is as it was

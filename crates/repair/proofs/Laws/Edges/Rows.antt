@@ -9,18 +9,17 @@ use lib.Seq.{getD-drop}
 use Rattle.geometry.specs.declared.point.Point.{Point}
 use Rattle.mesh.specs.declared.element.Pair.{Pair}
 use Rattle.mesh.specs.declared.element.Tet.{Tet}
-use Rattle.mesh.specs.Words.{wordAt}
+use Rattle.mesh.specs.Words.{wordAt, flat}
 use Rattle.mesh.specs.Sort.{sort}
-use Rattle.mesh.specs.Rows.{flat}
 use Rattle.mesh.specs.Complex.{keep}
 use Rattle.mesh.specs.Element.{pair, samePair}
-use Rattle.mesh.specs.List.{badIn, allEdges}
-use Rattle.mesh.specs.Short.{short, leEdge, shortEdges, edgeRow}
+use Rattle.mesh.specs.inside.List.{badIn, allEdges}
+use Rattle.mesh.specs.inside.Short.{short, leEdge, shortEdges, edgeRow}
 use Rattle.mesh.proofs.Laws.Boundary.Same.{length-keep}
 use Rattle.mesh.proofs.Laws.Sort.{length-sort}
 use Rattle.mesh.proofs.Laws.Unique.{length-unique}
 use Rattle.mesh.proofs.Laws.Short.Loops.{length-all}
-use Rattle.repair.specs.Layout.{edgesOf}
+use Rattle.repair.specs.inside.Layout.{edgesOf}
 
 -- no more than six edges an element
 pub short-few : (ps : List Point) (limit : Float) (ts : List Tet) → length (shortEdges ps limit ts) ≤ 6 * length ts

@@ -17,13 +17,12 @@ use Rattle.geometry.specs.Literals.{threeQuarters}
 use Rattle.mesh.specs.declared.element.Pair.{Pair}
 use Rattle.mesh.specs.declared.element.Tet.{Tet}
 use Rattle.mesh.specs.declared.star.Index.{Index}
-use Rattle.mesh.specs.Words.{wordAt, zeroWords}
-use Rattle.mesh.specs.Rows.{flat}
+use Rattle.mesh.specs.Words.{wordAt, zeroWords, flat}
 use Rattle.mesh.specs.Complex.{keep}
 use Rattle.mesh.specs.Element.{tets}
-use Rattle.mesh.specs.List.{gone}
-use Rattle.mesh.specs.Short.{shortEdges, edgeRow, shortFits, Shorts, shortIn}
-use Rattle.mesh.specs.About as about
+use Rattle.mesh.specs.inside.List.{gone}
+use Rattle.mesh.specs.inside.Short.{shortEdges, edgeRow, shortFits, Shorts, shortIn}
+use Rattle.mesh.specs.inside.About as about
 use Rattle.mesh.specs.Measure.{measure}
 use Rattle.mesh.proofs.Laws.Parts.{mid-put}
 use Rattle.mesh.proofs.Laws.Complex.Sets.{split}
@@ -32,7 +31,7 @@ use Rattle.mesh.proofs.Laws.List.Bad.{keep-few}
 use Rattle.mesh.proofs.Laws.About.Calls.{Copied, live-count, live-copied}
 use Rattle.repair.specs.Mesh.{Mesh}
 use Rattle.repair.specs.Improve.{State, listedEdges}
-use Rattle.repair.specs.Layout.{Room, Stands, Same, edgesAt, edgesOf, edgesIn, slotsIn, liveIn}
+use Rattle.repair.specs.inside.Layout.{Room, Stands, Same, edgesAt, edgesOf, edgesIn, slotsIn, liveIn}
 use Rattle.repair.proofs.Laws.Layout.{room-laid}
 use Rattle.repair.proofs.Laws.Same.{same-trans, same-wider, same-front, same-put}
 use Rattle.repair.proofs.Laws.Improve.Short.{Live, short-listed}

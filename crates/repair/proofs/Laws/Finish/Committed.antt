@@ -7,11 +7,11 @@ use lib.Ieee.{Float}
 use lib.ListN.{length, take, drop}
 use Rattle.mesh.specs.declared.intake.Sizes.{Sizes}
 use Rattle.mesh.specs.Words.{copied}
-use Rattle.mesh.specs.Manifold.{KeptBelow}
+use Rattle.mesh.specs.inside.Manifold.{KeptBelow}
 use Rattle.mesh.proofs.Laws.Manifold.Steps.{word-below}
 use Rattle.mesh.proofs.Laws.Parts.{part-same}
 use Rattle.repair.specs.Step.{State}
-use Rattle.repair.specs.Finish.{usedAt, listed, movedPoints, movedMasks, MeshRoom, movedIn}
+use Rattle.repair.specs.inside.improve.Renumber.{usedAt, listed, movedPoints, movedMasks, MeshRoom, movedIn}
 use Rattle.repair.proofs.Laws.Finish.Moved.{copied-over}
 
 module _ (z : Sizes) (nv : ℕ) (a₀ a : List ℕ) (s : State) {f : ℕ}

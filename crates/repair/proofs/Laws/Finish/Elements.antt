@@ -20,7 +20,7 @@ use Rattle.mesh.proofs.Laws.Boundary.Faces.{every-map}
 use Rattle.mesh.proofs.Laws.Link.Simplices.{every-mem, mem-every}
 use Rattle.repair.specs.Improve.{imageOf, allVertices, firstUses, placeOf}
 use Rattle.repair.specs.Step.{elementWords}
-use Rattle.repair.specs.Finish.{EndArea, Unmet, Numbered, Renumbered, usedBy}
+use Rattle.repair.specs.inside.improve.Renumber.{EndArea, Unmet, Numbered, Renumbered, usedBy}
 use Rattle.repair.proofs.Laws.Improve.Uses.{place-below, first-mem}
 use Rattle.repair.proofs.Laws.Improve.Buffers.{elements-back}
 use Rattle.repair.proofs.Laws.Finish.First.{first-few, first-same}

@@ -14,12 +14,12 @@ use Rattle.mesh.specs.declared.element.Tet.{Tet}
 use Rattle.mesh.specs.declared.element.Triple.{Triple}
 use Rattle.mesh.specs.declared.boundary.Outcome.{Outcome}
 use Rattle.mesh.specs.declared.boundary.Outcome.the-variants.{Surface, Refused}
-use Rattle.mesh.specs.Words.{zeroWords}
-use Rattle.mesh.specs.Rows.{flat}
+use Rattle.mesh.specs.Words.{zeroWords, flat}
 use Rattle.mesh.specs.Tests.{every}
 use Rattle.mesh.specs.Element.{tets, cornersOf}
 use Rattle.mesh.specs.Boundary.{boundaryNumber, boundaryOf}
-use Rattle.mesh.specs.Surface.{triplesOf, answer, answerOf, surfaceWords, Filled, areaAfter, boundaryIn}
+use Rattle.mesh.specs.Surface.{triplesOf, answer, answerOf, surfaceWords}
+use Rattle.mesh.specs.inside.Surface.{Filled, areaAfter, boundaryIn}
 use Rattle.mesh.specs.Manifold.{nonmanifold, triples, surfaceVertices, surfaceFits, Tested, nonmanifoldIn}
 use Rattle.mesh.proofs.Laws.Complex.Sets.{split}
 use Rattle.mesh.proofs.Laws.Boundary.Faces.{tets-kept}
@@ -28,7 +28,7 @@ use Rattle.mesh.proofs.Laws.Boundary.Called.{area-fits}
 use Rattle.mesh.proofs.Laws.Manifold.Whole.{triples-flat, fits-below}
 use Rattle.repair.specs.Improve.{allVertices}
 use Rattle.repair.specs.Step.{tripleWords}
-use Rattle.repair.specs.Finish.{endOf, testedOutcome, testedPart, Ended}
+use Rattle.repair.specs.inside.improve.Renumber.{endOf, testedOutcome, testedPart, Ended}
 use Rattle.repair.proofs.Laws.Finish.Surface.{boundary-every, words-flat}
 
 -- ---- by the number of the boundary

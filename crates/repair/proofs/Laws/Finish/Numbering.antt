@@ -19,7 +19,7 @@ use Rattle.mesh.proofs.Laws.Complex.Sets.{split, mem-here, mem-there}
 use Rattle.mesh.proofs.Laws.Link.Simplices.{every-mem}
 use Rattle.mesh.proofs.Laws.Parts.{getD-any}
 use Rattle.repair.specs.Improve.{firstUses, placeOf}
-use Rattle.repair.specs.Finish.{numberedAt, metAt, Unmet, Numbered}
+use Rattle.repair.specs.inside.improve.Renumber.{numberedAt, metAt, Unmet, Numbered}
 use Rattle.repair.proofs.Laws.Finish.First.{mem-more, mem-last, first-old, first-new, first-few, place-more, place-last, markOf, mark-met, mark-unmet, mark-last, mark-other}
 
 -- ---- the first words of a list

@@ -5,7 +5,7 @@ use mathlib.Core.List.{List, [], _∷_, _++_, map}
 use Prim.Native.Nat.{ℕ}
 use Rattle.mesh.specs.declared.element.Tet.{Tet}
 use Rattle.mesh.specs.declared.element.Triple.{Triple}
-use Rattle.mesh.specs.Rows.{flat}
+use Rattle.mesh.specs.Words.{flat}
 use Rattle.mesh.specs.Tests.{every}
 use Rattle.mesh.specs.Element.{cornersOf}
 use Rattle.mesh.specs.Boundary.{allFaces, boundaryOf, singles, leTriple}

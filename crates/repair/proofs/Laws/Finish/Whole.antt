@@ -19,7 +19,7 @@ use Rattle.mesh.specs.Tests.{every}
 use Rattle.mesh.specs.Element.{tets}
 use Rattle.mesh.specs.Boundary.{boundaryOf}
 use Rattle.mesh.specs.Surface.{answer}
-use Rattle.mesh.specs.Intake.{pointIn}
+use Rattle.mesh.specs.inside.Intake.{pointIn}
 use Rattle.mesh.proofs.Laws.Intake.Reads.{length-tets, points-at}
 use Rattle.mesh.proofs.Laws.Boundary.Faces.{map-known}
 use Rattle.mesh.proofs.Laws.Boundary.Whole.{taken-zero, refused-is}
@@ -28,7 +28,7 @@ use Rattle.repair.specs.declared.answer.Answer.the-variants as answers
 use Rattle.repair.specs.Mesh.{Mesh}
 use Rattle.repair.specs.Improve.{imageOf, allVertices, placeOf, renumbered, endNumber}
 use Rattle.repair.specs.Step.{State, meshOf, floatsOf, elementWords, tripleWords, over, sizesOf, committed}
-use Rattle.repair.specs.Finish.{improveEnd, EndArea, EndBuffers, usedBy, usedAt, Renumbered, endOf, Ended, listed, movedPoints, movedMasks, MeshRoom, movedIn}
+use Rattle.repair.specs.inside.improve.Renumber.{improveEnd, EndArea, EndBuffers, usedBy, usedAt, Renumbered, endOf, Ended, listed, movedPoints, movedMasks, MeshRoom, movedIn}
 use Rattle.repair.proofs.Laws.Finish.Ended.{end-few}
 use Rattle.repair.proofs.Laws.Finish.Elements.{words-all, all-words, used-few, used-below, images-below}
 

@@ -13,15 +13,15 @@ use lib.ListN.{length, getD, length-append}
 use Rattle.mesh.specs.declared.element.Triple.{Triple}
 use Rattle.mesh.specs.declared.element.Tet.{Tet}
 use Rattle.mesh.specs.Complex.{mem, keep, Nodup}
-use Rattle.mesh.specs.Element.{verticesOf, cornersOf}
+use Rattle.mesh.specs.Element.{verticesOf, cornersOf, hasAll}
 use Rattle.mesh.specs.Link.{without}
 use Rattle.mesh.specs.Group.{numbers}
 use Rattle.mesh.specs.Intake.{wellNumbered}
 use Rattle.mesh.specs.Measure.{Measure}
 use Rattle.mesh.proofs.Laws.Complex.Sets.{split, out, mem-here}
 use Rattle.mesh.proofs.Laws.Boundary.Same.{length-map}
-use Rattle.repair.specs.Flip.{State, hasAll, slotHas, live, elementsAt, besides, twoToThree, tryFace}
-use Rattle.repair.specs.FlipTries.{Start, FaceListed}
+use Rattle.repair.specs.Flip.{State, slotHas, live, elementsAt, besides, twoToThree, tryFace}
+use Rattle.repair.specs.inside.flip.Tries.{Start, FaceListed}
 use Rattle.repair.proofs.Laws.Improve.Intake.{numbered-element}
 use Rattle.repair.proofs.Laws.Flip.Owners.{length-without, without-elim}
 

@@ -16,17 +16,17 @@ use Rattle.mesh.specs.Words.{wordAt, copied}
 use Rattle.mesh.specs.Tests.{every}
 use Rattle.mesh.specs.Element.{tets}
 use Rattle.mesh.specs.Intake.{wellNumbered}
-use Rattle.mesh.specs.Star.{Complete, Laid, hasSlots, written, built}
+use Rattle.mesh.specs.inside.Star.{Complete, Laid, hasSlots, written, built}
 use Rattle.mesh.proofs.Laws.Complex.Sets.{and-fst, and-snd}
 use Rattle.mesh.proofs.Laws.Rows.{rows-same}
 use Rattle.mesh.proofs.Laws.Star.Layout.{laid-yes}
 use Rattle.mesh.proofs.Laws.Star.Written.{length-written, written-behind, written-at}
 use Rattle.mesh.proofs.Laws.Star.Hanging.{length-built, built-outside, built-complete}
 use Rattle.mesh.proofs.Laws.Star.Calls.{tets-same}
-use Rattle.repair.specs.Layout.{slotOk}
-use Rattle.repair.specs.FlipLayout.{Room, facesAt, slotOf, wordsIn}
-use Rattle.repair.specs.FlipTries.{Begun, faceRowsAt, edgeRowsAt}
-use Rattle.repair.specs.FlipBegin.{FacesLaid, EdgesLaid, SlotsLaid}
+use Rattle.repair.specs.inside.Layout.{slotOk}
+use Rattle.repair.specs.inside.flip.Layout.{Room, facesAt, slotOf, wordsIn}
+use Rattle.repair.specs.inside.flip.Tries.{Begun, faceRowsAt, edgeRowsAt}
+use Rattle.repair.specs.inside.flip.Prepare.{FacesLaid, EdgesLaid, SlotsLaid}
 use Rattle.repair.proofs.Laws.Layout.{area-at}
 use Rattle.repair.proofs.Laws.Replace.Slots.{ok-well, well-there}
 use Rattle.repair.proofs.Laws.Flip.Layout.{room-laid, slot-some}

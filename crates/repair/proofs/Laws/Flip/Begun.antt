@@ -15,11 +15,11 @@ use Rattle.mesh.specs.declared.element.Tet.{Tet}
 use Rattle.mesh.specs.Sort.{sort, unique}
 use Rattle.mesh.specs.Complex.{keep}
 use Rattle.mesh.specs.Tests.{every}
-use Rattle.mesh.specs.Element.{keyOf, cornersOf, samePair}
+use Rattle.mesh.specs.Element.{keyOf, cornersOf, samePair, lePair}
 use Rattle.mesh.specs.Boundary.{sameTriple, leTriple, allFaces}
 use Rattle.mesh.specs.Intake.{wellNumbered}
-use Rattle.mesh.specs.List as slots
-use Rattle.mesh.specs.Shared.{owners, hasTwo, badKeys, sharedFaces}
+use Rattle.mesh.specs.inside.List as slots
+use Rattle.mesh.specs.inside.Shared.{owners, hasTwo, badKeys, sharedFaces}
 use Rattle.mesh.specs.Measure.{measure, isBad}
 use mathlib.Core.Logic.{inl, inr}
 use Rattle.mesh.proofs.Laws.Complex.Sets.{and-fst, and-snd, mem-here, mem-there}
@@ -29,9 +29,9 @@ use Rattle.mesh.proofs.Laws.Link.Simplices.{every-mem, rising, rising-head, ris
 use Rattle.mesh.proofs.Laws.Link.Keys.{Fours, key-mem}
 use Rattle.mesh.proofs.Laws.List.Meaning.{pairRow, bad-edges}
 use Rattle.mesh.proofs.Laws.Intake.Numbered.{below}
-use Rattle.repair.specs.Mesh.{edge, allEdges, lePair}
+use Rattle.repair.specs.Mesh.{edge, allEdges}
 use Rattle.repair.specs.Flip.{listedEdges}
-use Rattle.repair.specs.FlipTries.{FaceListed, FacesListed, EdgesListed, edgeRow}
+use Rattle.repair.specs.inside.flip.Tries.{FaceListed, FacesListed, EdgesListed, edgeRow}
 use Rattle.repair.proofs.Laws.Rounds.{every-weaker}
 use Rattle.repair.proofs.Laws.Finish.Elements.{all-below}
 use Rattle.repair.proofs.Laws.Finish.Surface.{faces-every}

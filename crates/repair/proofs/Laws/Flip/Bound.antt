@@ -11,7 +11,7 @@ use lib.Seq.{getD-set-other, take-append-le, take-set-lt, getD-take}
 use Rattle.mesh.specs.declared.element.Tet.{Tet}
 use Rattle.mesh.proofs.Laws.Boundary.Same.{length-map}
 use Rattle.repair.specs.Flip.{live, emptied}
-use Rattle.repair.specs.FlipLayout.{FacesBound, EdgesBound}
+use Rattle.repair.specs.inside.flip.Layout.{FacesBound, EdgesBound}
 use Rattle.repair.proofs.Laws.Flip.Slots.{none-some, live-append, live-some}
 
 -- ---- one slot emptied

@@ -13,10 +13,11 @@ use Rattle.geometry.specs.Float.{one64}
 use Rattle.geometry.specs.Units.{unitsOf}
 use Rattle.mesh.specs.declared.element.Pair.{Pair}
 use Rattle.mesh.specs.declared.element.Tet.{Tet}
-use Rattle.mesh.specs.Sort.{sort, before, headed, ordered, unique}
+use Rattle.mesh.specs.Sort.{sort, unique}
+use Rattle.mesh.specs.inside.Sort.{before, headed, ordered}
 use Rattle.mesh.specs.Complex.{mem, sub, Nodup, Sub}
-use Rattle.mesh.specs.Moves.{Flippable32}
-use Rattle.mesh.specs.Element.{tet, verticesOf}
+use Rattle.mesh.specs.inside.Moves.{Flippable32}
+use Rattle.mesh.specs.Element.{tet, verticesOf, hasAll}
 use Rattle.mesh.specs.Link.{without}
 use Rattle.mesh.specs.Measure.{Measure}
 use Rattle.mesh.proofs.Laws.Complex.Sets.{split, clash, nope, or-cases, or-left, or-right, and-fst, and-snd, mem-there, mem-nil, out}
@@ -24,9 +25,9 @@ use Rattle.mesh.proofs.Laws.Sort.{ordered-sort}
 use Rattle.mesh.proofs.Laws.Unique.{elem-unique, unique-rising}
 use Rattle.mesh.proofs.Laws.Link.Members.{kept-intro}
 use Rattle.mesh.proofs.Laws.Link.Simplices.{sort-mem}
-use Rattle.repair.specs.Mesh.{any}
+use Rattle.mesh.specs.Tests.{any}
 use Rattle.repair.specs.Wholeness.{Exact}
-use Rattle.repair.specs.Flip.{State, hasAll, slotHas, live, numbersWith, elementsAt, besides, replace, threeToTwo, tryEdge}
+use Rattle.repair.specs.Flip.{State, slotHas, live, numbersWith, elementsAt, besides, replace, threeToTwo, tryEdge}
 use Rattle.repair.proofs.Laws.Site.Near.{mem-append}
 use Rattle.repair.proofs.Laws.Flip.Slots.{any-within, elements-with, length-with}
 use Rattle.repair.proofs.Laws.Flip.Replace.{Held, elementsOf, replace-held}

@@ -12,7 +12,7 @@ use Rattle.geometry.specs.Float.{zero64}
 use Rattle.mesh.specs.declared.element.Triple.{Triple}
 use Rattle.mesh.specs.declared.element.Tet.{Tet}
 use Rattle.mesh.specs.Sort.{sort}
-use Rattle.mesh.specs.Complex.{Proper}
+use Rattle.mesh.specs.inside.Complex.{Proper}
 use Rattle.mesh.specs.Element.{verticesOf, cornersOf, keyOf, parityOf}
 use Rattle.mesh.specs.Boundary.{leTriple, allFaces, withKey, keyNumber, firstNumber, boundaryNumber, boundaryOf}
 use Rattle.mesh.specs.Measure.{measure, determinantOf}

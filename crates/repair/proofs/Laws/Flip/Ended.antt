@@ -17,7 +17,8 @@ use Rattle.mesh.specs.declared.boundary.Outcome.the-variants.{Surface, Refused}
 use Rattle.mesh.specs.Words.{zeroWords}
 use Rattle.mesh.specs.Element.{tets}
 use Rattle.mesh.specs.Boundary.{boundaryNumber, boundaryOf}
-use Rattle.mesh.specs.Surface.{triplesOf, answer, answerOf, surfaceWords, areaFits, Filled, areaAfter, boundaryIn}
+use Rattle.mesh.specs.Surface.{triplesOf, answer, answerOf, surfaceWords}
+use Rattle.mesh.specs.inside.Surface.{areaFits, Filled, areaAfter, boundaryIn}
 use Rattle.mesh.specs.Manifold.{triples}
 use Rattle.mesh.proofs.Laws.Complex.Sets.{split}
 use Rattle.mesh.proofs.Laws.Parts.{part-same}
@@ -26,8 +27,8 @@ use Rattle.mesh.proofs.Laws.Boundary.Whole.{words-count, triples-few, area-fron
 use Rattle.mesh.proofs.Laws.Manifold.Whole.{triples-flat}
 use Rattle.repair.specs.Flip.{sortedKeys, sameTriples, endNumber}
 use Rattle.repair.specs.Step.{tripleWords}
-use Rattle.repair.specs.Layout.{Same}
-use Rattle.repair.specs.FlipEnd.{keyedOutcome, SurfaceEnded}
+use Rattle.repair.specs.inside.Layout.{Same}
+use Rattle.repair.specs.inside.flip.Finish.{keyedOutcome, SurfaceEnded}
 use Rattle.repair.proofs.Laws.Finish.Surface.{words-flat}
 use Rattle.repair.proofs.Laws.Finish.Ended.{good-answer, good-words, bad-answer, refused-answer}
 

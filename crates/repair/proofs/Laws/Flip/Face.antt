@@ -14,13 +14,13 @@ use Rattle.geometry.specs.Units.{unitsOf}
 use Rattle.mesh.specs.declared.element.Triple.{Triple}
 use Rattle.mesh.specs.declared.element.Tet.{Tet}
 use Rattle.mesh.specs.Complex.{keep, Nodup}
-use Rattle.mesh.specs.Element.{tet, verticesOf, cornersOf}
+use Rattle.mesh.specs.Element.{tet, verticesOf, cornersOf, hasAll}
 use Rattle.mesh.specs.Link.{without}
 use Rattle.mesh.specs.Measure.{Measure}
 use Rattle.mesh.proofs.Laws.Link.Members.{kept-elim}
-use Rattle.repair.specs.Mesh.{any}
+use Rattle.mesh.specs.Tests.{any}
 use Rattle.repair.specs.Wholeness.{Exact}
-use Rattle.repair.specs.Flip.{State, hasAll, slotHas, live, numbersWith, elementsAt, emptied, besides, oriented, accepted, replace, twoToThree, tryFace}
+use Rattle.repair.specs.Flip.{State, slotHas, live, numbersWith, elementsAt, emptied, besides, oriented, accepted, replace, twoToThree, tryFace}
 use Rattle.repair.proofs.Laws.Flip.Slots.{Aged, aged-emptied, aged-append, any-within, elements-with, length-with}
 use Rattle.repair.proofs.Laws.Flip.Replace.{Held, elementsOf, replace-held}
 use Rattle.repair.proofs.Laws.Flip.Owners.{length-without, element-of, flippable23}

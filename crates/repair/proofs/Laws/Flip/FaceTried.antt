@@ -12,24 +12,23 @@ use Rattle.mesh.specs.declared.element.Triple.{Triple}
 use Rattle.mesh.specs.declared.element.Tet.{Tet}
 use Rattle.mesh.specs.declared.star.Index.{Index}
 use Rattle.mesh.specs.Complex.{mem}
-use Rattle.mesh.specs.Tests.{every}
+use Rattle.mesh.specs.Tests.{every, any}
 use Rattle.mesh.specs.Element.{tet, verticesOf, cornersOf}
 use Rattle.mesh.specs.Link.{without}
 use Rattle.mesh.specs.Intake.{wellNumbered}
-use Rattle.mesh.specs.List.{gone}
+use Rattle.mesh.specs.inside.List.{gone}
 use Rattle.mesh.specs.Measure.{Measure}
 use Rattle.mesh.proofs.Laws.Bools.{and-intro}
 use Rattle.mesh.proofs.Laws.Complex.Sets.{split, clash, or-left, or-right, out-head, out-tail}
-use Rattle.repair.specs.declared.orient.Trio.{Trio}
-use Rattle.repair.specs.declared.tried.Tried.{Tried}
-use Rattle.repair.specs.declared.tried.Places.{Places}
-use Rattle.repair.specs.Mesh.{any}
+use Rattle.repair.specs.declared.flip.orient.Trio.{Trio}
+use Rattle.repair.specs.declared.flip.counts.Tried.{Tried}
+use Rattle.repair.specs.declared.flip.counts.Places.{Places}
 use Rattle.repair.specs.Flip.{State, slotHas, emptied, elementsAt, oriented, accepted, replace, tryFace}
-use Rattle.repair.specs.Layout.{slotOk}
-use Rattle.repair.specs.Replace.{slotAt}
-use Rattle.repair.specs.Trio.{elementsOf}
-use Rattle.repair.specs.FlipLayout.{Stands, Kept, FacesBound, slotOf}
-use Rattle.repair.specs.FlipTries.{Holds, Went, Old, Start, FaceListed, placesOf}
+use Rattle.repair.specs.inside.Layout.{slotOk}
+use Rattle.repair.specs.inside.improve.Collapse.{slotAt}
+use Rattle.repair.specs.inside.flip.Trio.{elementsOf}
+use Rattle.repair.specs.inside.flip.Layout.{Stands, Kept, FacesBound, slotOf}
+use Rattle.repair.specs.inside.flip.Tries.{Holds, Went, Old, Start, FaceListed, placesOf}
 use Rattle.repair.proofs.Laws.Flip.Slots.{none-some, Aged, aged-emptied, aged-append}
 use Rattle.repair.proofs.Laws.Flip.Bound.{faces-room, faces-turn}
 use Rattle.repair.proofs.Laws.Flip.Layout.{slots-many, slot-none, slot-some, kept-refl}

@@ -13,10 +13,10 @@ use Rattle.mesh.specs.declared.element.Pair.{Pair}
 use Rattle.mesh.specs.declared.element.Tet.{Tet}
 use Rattle.mesh.specs.Sort.{sort, unique}
 use Rattle.mesh.specs.Complex.{keep}
-use Rattle.mesh.specs.Element.{tet}
+use Rattle.mesh.specs.Element.{tet, hasAll}
 use Rattle.mesh.specs.Measure.{Measure}
-use Rattle.repair.specs.Mesh.{any}
-use Rattle.repair.specs.Flip.{State, hasAll, slotHas, live, numbersWith, elementsAt, emptied, besides, oriented, accepted, replace, tryEdge, tryEdges}
+use Rattle.mesh.specs.Tests.{any}
+use Rattle.repair.specs.Flip.{State, slotHas, live, numbersWith, elementsAt, emptied, besides, oriented, accepted, replace, tryEdge, tryEdges}
 use Rattle.repair.proofs.Laws.Flip.Slots.{length-with, live-replaced}
 use Rattle.repair.proofs.Laws.Flip.Owners.{keep-both}
 

@@ -12,19 +12,18 @@ use lib.ListN.{length, take, drop, getD}
 use Rattle.mesh.specs.declared.element.Tet.{Tet}
 use Rattle.mesh.specs.declared.star.Index.{Index}
 use Rattle.mesh.specs.Complex.{mem, keep}
-use Rattle.mesh.specs.Tests.{every}
-use Rattle.mesh.specs.Element.{verticesOf}
+use Rattle.mesh.specs.Tests.{every, any}
+use Rattle.mesh.specs.Element.{verticesOf, hasAll}
 use Rattle.mesh.specs.Group.{numbers}
-use Rattle.mesh.specs.Star.{goneTet}
-use Rattle.mesh.specs.About as About
-use Rattle.mesh.specs.With.{anyWith, withList, withIn}
+use Rattle.mesh.specs.inside.Star.{goneTet}
+use Rattle.mesh.specs.inside.About as About
+use Rattle.mesh.specs.inside.With.{anyWith, withList, withIn}
 use Rattle.mesh.proofs.Laws.Complex.Sets.{split, clash, nope, and-fst, and-snd, mem-here, sub-elim}
 use Rattle.mesh.proofs.Laws.Star.Calls.{Answered}
 use Rattle.mesh.proofs.Laws.With.Found.{any-found, with-count, with-answered}
-use Rattle.repair.specs.Mesh.{any}
-use Rattle.repair.specs.Flip.{State, hasAll, slotHas, numbersWith}
-use Rattle.repair.specs.Layout.{Same, slotOk}
-use Rattle.repair.specs.FlipLayout.{Stands, slotOf, wordsIn}
+use Rattle.repair.specs.Flip.{State, slotHas, numbersWith}
+use Rattle.repair.specs.inside.Layout.{Same, slotOk}
+use Rattle.repair.specs.inside.flip.Layout.{Stands, slotOf, wordsIn}
 use Rattle.repair.proofs.Laws.Same.{same-front}
 use Rattle.repair.proofs.Laws.Replace.Slots.{gone-has, ok-cases, well-there}
 use Rattle.repair.proofs.Laws.Flip.Layout.{room-laid, area-long}
@@ -45,7 +44,7 @@ module _ (nv : ℕ) (few : nv ≤ 4096) (a : ℕ) (ha : a < nv) (σ : List ℕ) 
       ]
 
   -- one of the slots has them
-  any-slots : (ts : List Tet) → every (slotOk nv) ts ≡ true → any (slotHas σ) (map slotOf ts) ≡ About.any (hasAll σ) ts
+  any-slots : (ts : List Tet) → every (slotOk nv) ts ≡ true → any (slotHas σ) (map slotOf ts) ≡ any (hasAll σ) ts
   any-slots [] h = refl
   any-slots (t ∷ ts) h =
       ap₂ (λ (b c : Bool). b || c) (slot-has t (and-fst (slotOk nv t) (every (slotOk nv) ts) h)) (any-slots ts (and-snd (slotOk nv t) (every (slotOk nv) ts) h))

@@ -20,7 +20,7 @@ use Rattle.repair.specs.declared.answer.Answer.{Answer}
 use Rattle.repair.specs.declared.answer.Answer.the-variants as answers
 use Rattle.repair.specs.Flip.{sortedKeys, sameTriples, endNumber}
 use Rattle.repair.specs.Step.{elementWords, tripleWords, over}
-use Rattle.repair.specs.FlipEnd.{SurfaceEnded, EndRoom, flipEnd}
+use Rattle.repair.specs.inside.flip.Finish.{SurfaceEnded, EndRoom, flipEnd}
 use Rattle.repair.proofs.Laws.Site.Pass.{elements-front}
 use Rattle.repair.proofs.Laws.Flip.Keys.{length-triples}
 use Rattle.repair.proofs.Laws.Flip.Surface.{same-many, sorted-many}

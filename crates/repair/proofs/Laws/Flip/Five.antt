@@ -9,8 +9,9 @@ use Prim.Native.Nat.{ℕ, _+_, _≤_}
 use native.Mathlib.Omega.{arith}
 use borrow.Author.Tests.{ne-eqb}
 use lib.Dec.{eqb}
-use Rattle.mesh.specs.Complex.{mem, sub, within, star, Nodup, Sub, Proper}
-use Rattle.mesh.specs.Moves.{Flippable23, Flippable32}
+use Rattle.mesh.specs.Complex.{mem, sub, within, Nodup, Sub}
+use Rattle.mesh.specs.inside.Complex.{star, Proper}
+use Rattle.mesh.specs.inside.Moves.{Flippable23, Flippable32}
 use Rattle.mesh.specs.Tests.{every}
 use Rattle.mesh.proofs.Laws.Complex.Sets.{split, clash, nope, mem-nil, out-head, out-tail, Sub-cons, sub-elim, within-mono}
 use Rattle.mesh.proofs.Laws.Complex.Sums.{bit}

@@ -3,8 +3,9 @@ use mathlib.Core.Bool.{not}
 use mathlib.Core.List.{List, [], _∷_, _++_, map}
 use Prim.Native.Nat.{ℕ}
 use native.Mathlib.Omega.{arith}
-use Rattle.mesh.specs.Complex.{sub, keep, Proper}
-use Rattle.mesh.specs.Moves.{Flippable23, Flippable32}
+use Rattle.mesh.specs.Complex.{sub, keep}
+use Rattle.mesh.specs.inside.Complex.{Proper}
+use Rattle.mesh.specs.inside.Moves.{Flippable23, Flippable32}
 use Rattle.mesh.specs.Element.{tet, verticesOf}
 use Rattle.mesh.specs.Measure.{Measure}
 use Rattle.mesh.proofs.Laws.Complex.Flip.{flip23-proper, flip23-count, flip32-proper, flip32-count}

@@ -12,19 +12,19 @@ use Rattle.mesh.specs.declared.element.Tet.{Tet}
 use Rattle.mesh.specs.declared.star.Index.{Index}
 use Rattle.mesh.specs.Complex.{mem}
 use Rattle.mesh.specs.Intake.{wellNumbered}
-use Rattle.mesh.specs.List.{gone}
-use Rattle.mesh.specs.Star.{goneTet}
+use Rattle.mesh.specs.inside.List.{gone}
+use Rattle.mesh.specs.inside.Star.{goneTet}
 use Rattle.mesh.specs.Group.{numbers}
-use Rattle.mesh.specs.About as About
+use Rattle.mesh.specs.inside.About as About
 use Rattle.mesh.proofs.Laws.Parts.{side}
 use Rattle.mesh.proofs.Laws.Complex.Sets.{split, and-snd, clash, keep-mem}
 use Rattle.mesh.proofs.Laws.Intake.Reads.{tets-at, length-tets}
 use Rattle.mesh.proofs.Laws.Link.Members.{kept-elim, every-elim}
 use Rattle.mesh.proofs.Laws.Manifold.Corners.{every-getD}
 use Rattle.repair.specs.Flip.{State, slotHas, live, numbersWith}
-use Rattle.repair.specs.Layout.{slotOk}
-use Rattle.repair.specs.Replace.{slotAt}
-use Rattle.repair.specs.FlipLayout.{Stands, slotOf, wordsIn}
+use Rattle.repair.specs.inside.Layout.{slotOk}
+use Rattle.repair.specs.inside.improve.Collapse.{slotAt}
+use Rattle.repair.specs.inside.flip.Layout.{Stands, slotOf, wordsIn}
 use Rattle.repair.proofs.Laws.Gain.Tallies.{elementAt}
 use Rattle.repair.proofs.Laws.Replace.Slots.{ok-cases}
 use Rattle.repair.proofs.Laws.Replace.Writes.{slot-corners}

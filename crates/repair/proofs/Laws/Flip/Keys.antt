@@ -12,9 +12,9 @@ use lib.Dec.{leb}
 use lib.ListN.{length, take, drop, set, replicate, length-set}
 use lib.Seq.{length-take-le, getD-take, getD-drop, drop-drop, drop-at, getD-set-same, getD-set-other}
 use Rattle.mesh.specs.declared.element.Triple.{Triple}
-use Rattle.mesh.specs.Words.{wordAt}
+use Rattle.mesh.specs.Words.{wordAt, flat}
 use Rattle.mesh.specs.Sort.{sort}
-use Rattle.mesh.specs.Rows.{rows, flat, leRow, fitRows, sortedArea}
+use Rattle.mesh.specs.inside.Rows.{rows, leRow, fitRows, sortedArea}
 use Rattle.mesh.specs.Element.{keyOf, cornersOf}
 use Rattle.mesh.specs.Boundary.{sameTriple, leTriple}
 use Rattle.mesh.specs.Manifold.{triples}
@@ -24,8 +24,8 @@ use Rattle.mesh.proofs.Laws.Boundary.Order.{sort-corners}
 use Rattle.mesh.proofs.Laws.Sort.{length-sort}
 use Rattle.mesh.proofs.Laws.Manifold.Whole.{triples-flat, triples-take}
 use Rattle.repair.specs.Flip.{sameTriples}
-use Rattle.repair.specs.Layout.{Same}
-use Rattle.repair.specs.FlipLayout.{tripleAt, withTriple}
+use Rattle.repair.specs.inside.Layout.{Same}
+use Rattle.repair.specs.inside.flip.Layout.{tripleAt, withTriple}
 use Rattle.repair.proofs.Laws.Same.{same-refl, same-trans, same-wider, same-put}
 
 -- ---- triples read

@@ -13,15 +13,15 @@ use Rattle.mesh.specs.Words.{wordAt}
 use Rattle.mesh.specs.Tests.{every}
 use Rattle.mesh.specs.Complex.{keep}
 use Rattle.mesh.specs.Element.{triple}
-use Rattle.mesh.specs.List.{gone}
-use Rattle.mesh.specs.Star.{Laid}
-use Rattle.mesh.specs.About as About
+use Rattle.mesh.specs.inside.List.{gone}
+use Rattle.mesh.specs.inside.Star.{Laid}
+use Rattle.mesh.specs.inside.About as About
 use Rattle.mesh.proofs.Laws.Star.Calls.{answered-complete, answered-elements}
 use Rattle.mesh.proofs.Laws.Boundary.Same.{length-map}
 use Rattle.mesh.proofs.Laws.Intake.Reads.{length-tets}
 use Rattle.repair.specs.Flip.{State, live}
-use Rattle.repair.specs.Layout.{Same, slotOk}
-use Rattle.repair.specs.FlipLayout.{Room, Stands, Kept, slotOf, wordsIn, tripleAt}
+use Rattle.repair.specs.inside.Layout.{Same, slotOk}
+use Rattle.repair.specs.inside.flip.Layout.{Room, Stands, Kept, slotOf, wordsIn, tripleAt}
 
 -- the areas of the index lie one behind the other
 pub room-laid : {x : Index} {n m : ℕ} → Room x n m → Laid x m

@@ -10,16 +10,16 @@ use Rattle.geometry.specs.declared.point.Point.{Point}
 use Rattle.mesh.specs.declared.element.Tet.{Tet}
 use Rattle.mesh.specs.declared.list.Listed.{Listed}
 use Rattle.mesh.specs.declared.star.Index.{Index}
-use Rattle.mesh.specs.Words.{zeroWords, copied}
+use Rattle.mesh.specs.Words.{zeroWords, copied, flat}
 use Rattle.mesh.specs.Sort.{sort, unique}
-use Rattle.mesh.specs.Rows.{rows, flat, leRow, eqRow}
+use Rattle.mesh.specs.inside.Rows.{rows, leRow, eqRow}
 use Rattle.mesh.specs.Complex.{keep}
 use Rattle.mesh.specs.Element.{keyOf, tets, verticesOf}
 use Rattle.mesh.specs.Boundary.{sameTriple, leTriple, allFaces}
-use Rattle.mesh.specs.Group.{runs, sameFirst}
-use Rattle.mesh.specs.Euler.{spread, edgeRows}
-use Rattle.mesh.specs.List.{badIn, setOf, badEdges, listFits, Listing, listedIn}
-use Rattle.mesh.specs.Shared.{hasTwo, badKeys, sharedFaces, sharedRow, sharedFits, Shares, sharedIn, ownedFrom}
+use Rattle.mesh.specs.inside.Group.{runs, sameFirst}
+use Rattle.mesh.specs.inside.Euler.{spread, edgeRows}
+use Rattle.mesh.specs.inside.List.{badIn, setOf, badEdges, listFits, Listing, listedIn}
+use Rattle.mesh.specs.inside.Shared.{hasTwo, badKeys, sharedFaces, sharedRow, sharedFits, Shares, sharedIn, ownedFrom}
 use Rattle.mesh.proofs.Laws.Rows.{Shape, none, more, length-flat, shape-sort, shape-unique}
 use Rattle.mesh.proofs.Laws.Sort.{length-sort}
 use Rattle.mesh.proofs.Laws.Unique.{length-unique}
@@ -27,9 +27,9 @@ use Rattle.mesh.proofs.Laws.Boundary.Same.{length-keep, length-map}
 use Rattle.mesh.proofs.Laws.List.Push.{shape-append}
 use Rattle.mesh.proofs.Laws.Shared.Runs.{runs-shared}
 use Rattle.mesh.proofs.Laws.Shared.Scan.{shape-runs}
-use Rattle.repair.specs.Layout.{Same}
-use Rattle.repair.specs.FlipLayout.{Room, facesAt, edgesAt}
-use Rattle.repair.specs.FlipBegin.{FacesLaid, EdgesLaid}
+use Rattle.repair.specs.inside.Layout.{Same}
+use Rattle.repair.specs.inside.flip.Layout.{Room, facesAt, edgesAt}
+use Rattle.repair.specs.inside.flip.Prepare.{FacesLaid, EdgesLaid}
 use Rattle.repair.proofs.Laws.Flip.Part.{part-long, part-elements, part-same, part-rows}
 use Rattle.mesh.proofs.Laws.Intake.Reads.{length-tets}
 use Rattle.mesh.proofs.Laws.Boundary.Meaning.{length-faces}

@@ -7,7 +7,8 @@ use mathlib.Core.List.{List, [], _∷_, map}
 use Prim.Native.Nat.{ℕ, _<_}
 use borrow.Author.Tests.{ne-eqb, lt-ltb}
 use Rattle.mesh.specs.declared.element.Tet.{Tet}
-use Rattle.mesh.specs.Complex.{mem, Nodup, IsElement}
+use Rattle.mesh.specs.Complex.{mem, Nodup}
+use Rattle.mesh.specs.inside.Complex.{IsElement}
 use Rattle.mesh.specs.Tests.{every}
 use Rattle.mesh.specs.Element.{tet, verticesOf}
 use Rattle.mesh.specs.Intake.{wellNumbered}

@@ -16,18 +16,18 @@ use Rattle.mesh.specs.declared.element.Triple.{Triple}
 use Rattle.mesh.specs.declared.element.Tet.{Tet}
 use Rattle.mesh.specs.Words.{wordAt}
 use Rattle.mesh.specs.Complex.{mem}
-use Rattle.mesh.specs.Rows.{sortedArea, uniqueRows, uniqueArea}
+use Rattle.mesh.specs.inside.Rows.{sortedArea, uniqueRows, uniqueArea}
 use Rattle.mesh.specs.Element.{verticesOf}
 use Rattle.mesh.specs.Link.{without}
-use Rattle.mesh.specs.Star.{written, distinct}
+use Rattle.mesh.specs.inside.Star.{written, distinct}
 use Rattle.mesh.proofs.Laws.Parts.{side}
 use Rattle.mesh.proofs.Laws.Complex.Sets.{or-cases, mem-nil}
 use Rattle.mesh.proofs.Laws.Star.Singles.{kinds-count, kinds-area}
 use Rattle.mesh.proofs.Laws.Star.Written.{length-written, written-part, written-more, written-none, written-one}
 use Rattle.repair.specs.Flip.{besides}
-use Rattle.repair.specs.FlipLayout.{tripleAt}
-use Rattle.repair.specs.FlipTries.{edgeRow}
-use Rattle.repair.specs.FlipEdge.{othersOf, Puts, ListedAt}
+use Rattle.repair.specs.inside.flip.Layout.{tripleAt}
+use Rattle.repair.specs.inside.flip.Tries.{edgeRow}
+use Rattle.repair.specs.inside.flip.ThreeToTwo.{othersOf, Puts, ListedAt}
 use Rattle.repair.proofs.Laws.Same.{same-wider, same-put}
 use Rattle.repair.proofs.Laws.Site.Near.{mem-append}
 use Rattle.repair.proofs.Laws.Flip.Owners.{without-elim}

@@ -10,10 +10,11 @@ use borrow.Author.Tests.{not-true}
 use lib.Dec.{eqb}
 use lib.ListN.{length}
 use Rattle.mesh.specs.declared.element.Tet.{Tet}
-use Rattle.mesh.specs.Complex.{mem, sub, within, keep, star, Nodup, Sub, IsElement, Proper}
-use Rattle.mesh.specs.Moves.{Flippable23}
+use Rattle.mesh.specs.Complex.{mem, sub, within, keep, Nodup, Sub}
+use Rattle.mesh.specs.inside.Complex.{star, IsElement, Proper}
+use Rattle.mesh.specs.inside.Moves.{Flippable23}
 use Rattle.mesh.specs.Tests.{every}
-use Rattle.mesh.specs.Element.{verticesOf}
+use Rattle.mesh.specs.Element.{verticesOf, hasAll}
 use Rattle.mesh.specs.Link.{without}
 use Rattle.mesh.proofs.Laws.Complex.Sets.{split, clash, nope, and-fst, and-snd, mem-here, mem-there, mem-cases, mem-nil, out, out-head, out-tail, Sub-cons, sub-elim, within-elim, within-intro, short, full, keep-mem, keep-nodup}
 use Rattle.mesh.proofs.Laws.Complex.Lists.{keep-split}
@@ -21,7 +22,6 @@ use Rattle.mesh.proofs.Laws.Complex.Same.{proper-keep}
 use Rattle.mesh.proofs.Laws.Complex.Tets.{tet-of, whole}
 use Rattle.mesh.proofs.Laws.Link.Members.{kept-elim}
 use Rattle.mesh.proofs.Laws.Boundary.Same.{keep-map, length-map}
-use Rattle.repair.specs.Flip.{hasAll}
 use Rattle.repair.proofs.Laws.Flip.Triangles.{lose, star-none}
 
 -- ---- vertices besides σ

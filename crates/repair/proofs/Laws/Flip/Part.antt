@@ -6,15 +6,15 @@ use native.Mathlib.Omega.{arith}
 use borrow.Author.Tests.{le-leb}
 use lib.ListN.{length, take, drop, length-drop}
 use lib.Seq.{length-take-le, drop-at, drop-drop, getD-take, getD-drop}
-use Rattle.mesh.specs.Words.{wordAt, copied, inside}
-use Rattle.mesh.specs.Rows.{rows, flat}
+use Rattle.mesh.specs.Words.{wordAt, copied, inside, flat}
+use Rattle.mesh.specs.inside.Rows.{rows}
 use Rattle.mesh.specs.Element.{tets}
-use Rattle.mesh.specs.Star.{written}
+use Rattle.mesh.specs.inside.Star.{written}
 use Rattle.mesh.proofs.Laws.Parts.{into-is}
 use Rattle.mesh.proofs.Laws.Rows.{Shape, rows-flat}
 use Rattle.mesh.proofs.Laws.Star.Written.{length-written, written-below, written-behind, written-at}
 use Rattle.mesh.proofs.Laws.Star.Calls.{tets-same}
-use Rattle.repair.specs.Layout.{Same}
+use Rattle.repair.specs.inside.Layout.{Same}
 
 -- the first k words of els copied to a
 pub copied-is : (els w : List ℕ) (a k : ℕ) → k ≤ length els → a + k ≤ length w → copied els 0 w a k ≡ written w a (take k els)

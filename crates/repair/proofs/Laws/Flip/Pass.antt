@@ -16,7 +16,8 @@ use Rattle.geometry.specs.Units.{unitsOf}
 use Rattle.mesh.specs.declared.element.Pair.{Pair}
 use Rattle.mesh.specs.declared.element.Triple.{Triple}
 use Rattle.mesh.specs.declared.element.Tet.{Tet}
-use Rattle.mesh.specs.Complex.{Proper, SameCount, alternating}
+use Rattle.mesh.specs.Complex.{alternating}
+use Rattle.mesh.specs.inside.Complex.{Proper, SameCount}
 use Rattle.mesh.specs.Tests.{every}
 use Rattle.mesh.specs.Element.{tet, verticesOf, cornersOf, keyOf}
 use Rattle.mesh.specs.Boundary.{allFaces, withKey, boundaryNumber, boundaryOf}

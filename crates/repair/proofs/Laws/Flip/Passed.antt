@@ -23,9 +23,9 @@ use Rattle.repair.specs.declared.answer.Answer.the-variants.{Done}
 use Rattle.repair.specs.Mesh.{Mesh, made, refused}
 use Rattle.repair.specs.Flip as def
 use Rattle.repair.specs.Step.{State, Call, Pass, sizesAfter, triplesOf, meshOf, floatsOf, elementWords, tripleWords, over, committed, resultOf, finish}
-use Rattle.repair.specs.Fitting.{Fitting}
-use Rattle.repair.specs.FlipEnd.{flipEnd}
-use Rattle.repair.specs.FlipFitting.{FlipFitting, flipLast, flipWhole}
+use Rattle.repair.specs.inside.improve.Fitting.{Fitting}
+use Rattle.repair.specs.inside.flip.Finish.{flipEnd}
+use Rattle.repair.specs.inside.flip.Fitting.{FlipFitting, flipLast, flipWhole}
 use Rattle.repair.proofs.Laws.Entry.{seen, lengths, fitting}
 use Rattle.repair.proofs.Laws.Site.Pass.{floats-front, over-is}
 

@@ -15,10 +15,11 @@ use Rattle.geometry.specs.Float.{_+₆₄_, one64}
 use Rattle.geometry.specs.Literals.{e-10}
 use Rattle.geometry.specs.Units.{unitsOf}
 use Rattle.mesh.specs.declared.element.Tet.{Tet}
-use Rattle.mesh.specs.Complex.{mem, sub, within, keep, Nodup, Sub, IsElement, Proper, SameCount, SameComplex}
-use Rattle.mesh.specs.Moves.{flip23, flip32, Flippable23, Flippable32}
+use Rattle.mesh.specs.Complex.{mem, sub, within, keep, Nodup, Sub}
+use Rattle.mesh.specs.inside.Complex.{IsElement, Proper, SameCount, SameComplex}
+use Rattle.mesh.specs.inside.Moves.{flip23, flip32, Flippable23, Flippable32}
 use Rattle.mesh.specs.Tests.{every}
-use Rattle.mesh.specs.Element.{tet, verticesOf}
+use Rattle.mesh.specs.Element.{tet, verticesOf, hasAll}
 use Rattle.mesh.specs.Measure.{Measure, lowestOf}
 use Rattle.mesh.proofs.Laws.Bools.{or-swap}
 use Rattle.mesh.proofs.Laws.Complex.Sets.{and-fst, and-snd, out, out-head, within-intro}
@@ -28,7 +29,7 @@ use Rattle.mesh.proofs.Laws.Link.Members.{kept-elim, every-elim}
 use Rattle.mesh.proofs.Laws.Boundary.Same.{keep-map}
 use Rattle.mesh.proofs.Laws.Link.Closed.{AtMostTwo}
 use Rattle.repair.specs.Wholeness.{Exact}
-use Rattle.repair.specs.Flip.{State, hasAll, live, numbersWith, elementsAt, emptied, oriented, accepted, replace}
+use Rattle.repair.specs.Flip.{State, live, numbersWith, elementsAt, emptied, oriented, accepted, replace}
 use Rattle.repair.proofs.Laws.Smooth.Scores.{above-exact, lowest-exact, lowest-under, lowest-over}
 use Rattle.repair.proofs.Laws.Flip.Slots.{elements-with, live-replaced}
 use Rattle.repair.proofs.Laws.Flip.Triangles.{Alike}

@@ -16,14 +16,14 @@ use Rattle.mesh.specs.Intake.{wellNumbered}
 use Rattle.mesh.specs.Measure.{Measure}
 use Rattle.mesh.proofs.Laws.Complex.Sets.{and-fst, and-snd}
 use Rattle.mesh.proofs.Laws.Boundary.Same.{length-map}
-use Rattle.repair.specs.declared.orient.Trio.{Trio}
-use Rattle.repair.specs.declared.tried.Tried.{Tried}
-use Rattle.repair.specs.declared.tried.Places.{Places}
+use Rattle.repair.specs.declared.flip.orient.Trio.{Trio}
+use Rattle.repair.specs.declared.flip.counts.Tried.{Tried}
+use Rattle.repair.specs.declared.flip.counts.Places.{Places}
 use Rattle.repair.specs.Flip.{State, live, emptied, elementsAt, oriented, accepted, replace}
-use Rattle.repair.specs.Trio.{elementsOf}
-use Rattle.repair.specs.FlipLayout.{Stands, Kept}
-use Rattle.repair.specs.FlipTries.{Holds, Counted, Counts, Old, placesOf}
-use Rattle.repair.specs.FlipReplace.{Empties, Adds}
+use Rattle.repair.specs.inside.flip.Trio.{elementsOf}
+use Rattle.repair.specs.inside.flip.Layout.{Stands, Kept}
+use Rattle.repair.specs.inside.flip.Tries.{Holds, Counted, Counts, Old, placesOf}
+use Rattle.repair.specs.inside.flip.Replace.{Empties, Adds}
 use Rattle.repair.proofs.Laws.Flip.Slots.{none-some, live-some}
 use Rattle.repair.proofs.Laws.Flip.Numbered.{oriented-numbered}
 use Rattle.repair.proofs.Laws.Flip.Trio.{elements-two, elements-three}

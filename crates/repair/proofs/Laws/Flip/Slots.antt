@@ -12,12 +12,12 @@ use lib.ListN.{length, getD, set, length-append, length-set, List·getD-append}
 use lib.Seq.{set-append-seam, append-snoc}
 use Rattle.mesh.specs.declared.element.Tet.{Tet}
 use Rattle.mesh.specs.Complex.{within, keep}
-use Rattle.mesh.specs.Element.{verticesOf}
+use Rattle.mesh.specs.Element.{verticesOf, hasAll}
 use Rattle.mesh.specs.Group.{numbers}
 use Rattle.mesh.proofs.Laws.Complex.Sets.{split}
 use Rattle.mesh.proofs.Laws.Boundary.Same.{length-map}
-use Rattle.repair.specs.Mesh.{any}
-use Rattle.repair.specs.Flip.{hasAll, slotHas, live, numbersWith, elementsAt, emptied}
+use Rattle.mesh.specs.Tests.{any}
+use Rattle.repair.specs.Flip.{slotHas, live, numbersWith, elementsAt, emptied}
 use Rattle.repair.proofs.Laws.Smooth.Placed.{set-cases}
 
 -- ---- live elements

@@ -9,15 +9,16 @@ use Prim.Native.Nat.{ℕ, zero, suc, _+_, _-_, _≤_, _<_}
 use native.Mathlib.Omega.{arith}
 use lib.ListN.{length, getD, length-append}
 use Rattle.mesh.specs.declared.element.Tet.{Tet}
-use Rattle.mesh.specs.Complex.{keep, Nodup, Proper}
-use Rattle.mesh.specs.Element.{verticesOf}
+use Rattle.mesh.specs.Complex.{keep, Nodup}
+use Rattle.mesh.specs.inside.Complex.{Proper}
+use Rattle.mesh.specs.Element.{verticesOf, hasAll}
 use Rattle.mesh.specs.Link.{without}
 use Rattle.mesh.specs.Group.{numbers}
 use Rattle.mesh.proofs.Laws.Complex.Sets.{split}
 use Rattle.mesh.proofs.Laws.Link.Members.{kept-elim, kept-intro}
 use Rattle.mesh.proofs.Laws.Link.Closed.{AtMostTwo}
 use Rattle.mesh.proofs.Laws.Boundary.Same.{length-map}
-use Rattle.repair.specs.Flip.{hasAll, slotHas, live, numbersWith, elementsAt, besides}
+use Rattle.repair.specs.Flip.{slotHas, live, numbersWith, elementsAt, besides}
 use Rattle.repair.proofs.Laws.Flip.Slots.{none-some, Aged, at-live, length-with}
 use Rattle.repair.proofs.Laws.Flip.Replace.{elementsOf}
 use Rattle.repair.proofs.Laws.Flip.Owners.{length-without, star-owners, element-of}

@@ -20,7 +20,7 @@ use Rattle.mesh.proofs.Laws.Parts.{paste-off, paste-part, into-is, length-copie
 use Rattle.mesh.proofs.Laws.Sort.{length-sort}
 use Rattle.mesh.proofs.Laws.Boundary.Same.{length-map}
 use Rattle.repair.specs.Flip.{sortedKeys, sameTriples}
-use Rattle.repair.specs.Layout.{Same}
+use Rattle.repair.specs.inside.Layout.{Same}
 use Rattle.repair.proofs.Laws.Same.{same-trans, same-wider}
 use Rattle.repair.proofs.Laws.Flip.Keys.{length-triples}
 use Rattle.mesh.proofs.Laws.Manifold.Whole.{triples-take}

@@ -9,7 +9,8 @@ use native.Mathlib.Omega.{arith}
 use borrow.Author.Tests.{ne-eqb}
 use lib.Dec.{eqb}
 use lib.ListN.{length}
-use Rattle.mesh.specs.Complex.{mem, sub, within, keep, star, Nodup, Sub}
+use Rattle.mesh.specs.Complex.{mem, sub, within, keep, Nodup, Sub}
+use Rattle.mesh.specs.inside.Complex.{star}
 use Rattle.mesh.specs.Tests.{every}
 use Rattle.mesh.proofs.Laws.Complex.Sets.{split, clash, out-head, out-tail, apart, sub-elim, sub-intro, within-elim, short}
 use Rattle.mesh.proofs.Laws.Complex.Lists.{keep-pos}

@@ -12,17 +12,17 @@ use Rattle.mesh.specs.declared.element.Triple.{Triple}
 use Rattle.mesh.specs.declared.element.Tet.{Tet}
 use Rattle.mesh.specs.declared.star.Index.{Index}
 use Rattle.mesh.specs.Words.{wordAt, pointsOf}
-use Rattle.mesh.specs.Rows.{rows}
+use Rattle.mesh.specs.inside.Rows.{rows}
 use Rattle.mesh.specs.Element.{pair, triple}
-use Rattle.mesh.specs.Shared.{owners, sharedRow}
+use Rattle.mesh.specs.inside.Shared.{owners, sharedRow}
 use Rattle.mesh.specs.Measure.{measure}
 use Rattle.mesh.proofs.Laws.Parts.{getD-any}
 use Rattle.mesh.proofs.Laws.Rows.{length-rows, rows-at}
 use Rattle.mesh.proofs.Laws.Boundary.Same.{length-map}
-use Rattle.repair.specs.declared.tried.Tried.{Tried}
+use Rattle.repair.specs.declared.flip.counts.Tried.{Tried}
 use Rattle.repair.specs.Flip.{State, tryFace, tryFaces, tryEdge, tryEdges}
-use Rattle.repair.specs.FlipLayout.{Room, FacesBound, EdgesBound, tripleAt}
-use Rattle.repair.specs.FlipTries.{Holds, Counted, Counts, Went, Start, FaceListed, FacesListed, EdgeListed, EdgesListed, edgeRow, faceRowsAt, edgeRowsAt}
+use Rattle.repair.specs.inside.flip.Layout.{Room, FacesBound, EdgesBound, tripleAt}
+use Rattle.repair.specs.inside.flip.Tries.{Holds, Counted, Counts, Went, Start, FaceListed, FacesListed, EdgeListed, EdgesListed, edgeRow, faceRowsAt, edgeRowsAt}
 use Rattle.repair.proofs.Laws.Flip.Layout.{kept-trans}
 
 -- ---- rows

@@ -14,11 +14,11 @@ use Rattle.geometry.specs.Literals.{e-10}
 use Rattle.mesh.specs.declared.element.Tet.{Tet}
 use Rattle.mesh.specs.Tests.{every}
 use Rattle.mesh.specs.Measure.{Measure, measure, determinantOf, volumeOf, badCount, lowestOf}
-use Rattle.repair.specs.declared.orient.Trio.{Trio}
-use Rattle.repair.specs.declared.tally.Tally.{Tally}
+use Rattle.repair.specs.declared.flip.orient.Trio.{Trio}
+use Rattle.repair.specs.declared.quality.Tally.{Tally}
 use Rattle.repair.specs.Flip.{oriented, accepted}
-use Rattle.repair.specs.Tally.{started, counted, tallied}
-use Rattle.repair.specs.Trio.{elementsOf}
+use Rattle.repair.specs.inside.Quality.{started, counted, tallied}
+use Rattle.repair.specs.inside.flip.Trio.{elementsOf}
 use Rattle.repair.proofs.Laws.Gain.Tallies.{counted-few, tallied-lowest, tallied-bad}
 
 -- ---- the elements

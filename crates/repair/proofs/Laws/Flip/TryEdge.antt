@@ -12,24 +12,24 @@ use Rattle.mesh.specs.declared.element.Pair.{Pair}
 use Rattle.mesh.specs.declared.element.Triple.{Triple}
 use Rattle.mesh.specs.declared.element.Tet.{Tet}
 use Rattle.mesh.specs.declared.star.Index.{Index}
-use Rattle.mesh.specs.Sort.{sort, before, ordered, unique}
+use Rattle.mesh.specs.Sort.{sort, unique}
+use Rattle.mesh.specs.inside.Sort.{before, ordered}
 use Rattle.mesh.specs.Complex.{mem, Nodup}
-use Rattle.mesh.specs.Tests.{every, nodup, under}
-use Rattle.mesh.specs.Element.{tet, verticesOf}
+use Rattle.mesh.specs.Tests.{every, nodup, under, any}
+use Rattle.mesh.specs.Element.{tet, verticesOf, hasAll}
 use Rattle.mesh.specs.Intake.{wellNumbered}
 use Rattle.mesh.specs.Measure.{Measure}
 use Rattle.mesh.proofs.Laws.Complex.Sets.{and-fst, mem-here, mem-there, out-head, out-tail, nope, clash}
 use Rattle.mesh.proofs.Laws.Link.Members.{kept-elim}
-use Rattle.repair.specs.declared.orient.Trio.{Trio}
-use Rattle.repair.specs.declared.tried.Tried.{Tried}
-use Rattle.repair.specs.declared.tried.Places.{Places}
-use Rattle.repair.specs.Mesh.{any}
-use Rattle.repair.specs.Flip.{State, hasAll, slotHas, live, numbersWith, elementsAt, emptied, besides, oriented, accepted, replace, threeToTwo, tryEdge}
-use Rattle.repair.specs.Trio.{elementsOf}
-use Rattle.repair.specs.Layout.{Same}
-use Rattle.repair.specs.FlipLayout.{Stands, Kept, EdgesBound, tripleAt}
-use Rattle.repair.specs.FlipTries.{Holds, Went, Old, placesOf, EdgeListed, edgeRow}
-use Rattle.repair.specs.FlipEdge.{trioIn, threeOf, othersOf, ListedAt}
+use Rattle.repair.specs.declared.flip.orient.Trio.{Trio}
+use Rattle.repair.specs.declared.flip.counts.Tried.{Tried}
+use Rattle.repair.specs.declared.flip.counts.Places.{Places}
+use Rattle.repair.specs.Flip.{State, slotHas, live, numbersWith, elementsAt, emptied, besides, oriented, accepted, replace, threeToTwo, tryEdge}
+use Rattle.repair.specs.inside.flip.Trio.{elementsOf}
+use Rattle.repair.specs.inside.Layout.{Same}
+use Rattle.repair.specs.inside.flip.Layout.{Stands, Kept, EdgesBound, tripleAt}
+use Rattle.repair.specs.inside.flip.Tries.{Holds, Went, Old, placesOf, EdgeListed, edgeRow}
+use Rattle.repair.specs.inside.flip.ThreeToTwo.{trioIn, threeOf, othersOf, ListedAt}
 use Rattle.repair.proofs.Laws.Same.{same-trans}
 use Rattle.repair.proofs.Laws.Site.Near.{kept-rising}
 use Rattle.repair.proofs.Laws.Flip.Slots.{elements-with}

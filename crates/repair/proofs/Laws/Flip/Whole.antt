@@ -18,24 +18,24 @@ use Rattle.mesh.specs.declared.element.Tet.{Tet}
 use Rattle.mesh.specs.declared.intake.Sizes.{Sizes}
 use Rattle.mesh.specs.declared.star.Index.{Index}
 use Rattle.mesh.specs.Words.{pointsOf}
-use Rattle.mesh.specs.Rows.{rows}
+use Rattle.mesh.specs.inside.Rows.{rows}
 use Rattle.mesh.specs.Tests.{every}
 use Rattle.mesh.specs.Element.{tets}
-use Rattle.mesh.specs.Surface.{areaFits}
+use Rattle.mesh.specs.inside.Surface.{areaFits}
 use Rattle.mesh.specs.Manifold.{triples}
 use Rattle.mesh.specs.Intake.{wellNumbered}
-use Rattle.mesh.specs.Shared.{sharedRow, sharedFaces}
-use Rattle.mesh.specs.About as about
+use Rattle.mesh.specs.inside.Shared.{sharedRow, sharedFaces}
+use Rattle.mesh.specs.inside.About as about
 use Rattle.mesh.specs.Measure.{measure}
 use Rattle.mesh.proofs.Laws.Rows.{rows-same}
 use Rattle.mesh.proofs.Laws.About.Calls.{Copied, live-count, live-copied}
-use Rattle.repair.specs.declared.tried.Tried.{Tried}
-use Rattle.repair.specs.declared.tried.Lists.{Lists}
+use Rattle.repair.specs.declared.flip.counts.Tried.{Tried}
+use Rattle.repair.specs.declared.flip.counts.Lists.{Lists}
 use Rattle.repair.specs.Flip.{State, live, listedEdges, tryFaces, tryEdges, flips}
-use Rattle.repair.specs.FlipLayout.{Room, Stands, FacesBound, EdgesBound}
-use Rattle.repair.specs.FlipTries.{Holds, Went, Start, FacesListed, EdgesListed, edgeRow, faceRowsAt, edgeRowsAt, Begun}
-use Rattle.repair.specs.FlipEnd.{EndRoom, flipEnd}
-use Rattle.repair.specs.FlipFitting.{FlipFitting, flipLast, flipWhole}
+use Rattle.repair.specs.inside.flip.Layout.{Room, Stands, FacesBound, EdgesBound}
+use Rattle.repair.specs.inside.flip.Tries.{Holds, Went, Start, FacesListed, EdgesListed, edgeRow, faceRowsAt, edgeRowsAt, Begun}
+use Rattle.repair.specs.inside.flip.Finish.{EndRoom, flipEnd}
+use Rattle.repair.specs.inside.flip.Fitting.{FlipFitting, flipLast, flipWhole}
 use Rattle.repair.proofs.Laws.Flip.Layout.{room-laid, area-long, stands-live}
 use Rattle.repair.proofs.Laws.Flip.Bound.{faces-start, faces-edges}
 use Rattle.repair.proofs.Laws.Flip.Shared.{shared-tried}

@@ -15,16 +15,16 @@ use Rattle.mesh.specs.Words.{wordAt}
 use Rattle.mesh.specs.Tests.{every}
 use Rattle.mesh.specs.Element.{tets}
 use Rattle.mesh.specs.Intake.{wellNumbered}
-use Rattle.mesh.specs.Star.{Laid, Outside, goneTet, cornerAt, setChain, pushed, hung, hungAll, hasSlots, appended}
+use Rattle.mesh.specs.inside.Star.{Laid, Outside, goneTet, cornerAt, setChain, pushed, hung, hungAll, hasSlots, appended}
 use Rattle.mesh.proofs.Laws.Parts.{side}
 use Rattle.mesh.proofs.Laws.Complex.Sets.{and-fst, and-snd}
 use Rattle.mesh.proofs.Laws.Star.Calls.{tets-same, gone-complete, written-complete}
 use Rattle.mesh.proofs.Laws.Star.Layout.{laid-yes}
 use Rattle.mesh.proofs.Laws.Star.Hanging.{length-appended, appended-outside, appended-complete}
 use Rattle.repair.specs.Flip.{State}
-use Rattle.repair.specs.Layout.{slotOk}
-use Rattle.repair.specs.Replace.{putSlot}
-use Rattle.repair.specs.FlipLayout.{Room, Stands, Kept, facesAt, slotOf, wordsIn}
+use Rattle.repair.specs.inside.Layout.{slotOk}
+use Rattle.repair.specs.inside.improve.Collapse.{putSlot}
+use Rattle.repair.specs.inside.flip.Layout.{Room, Stands, Kept, facesAt, slotOf, wordsIn}
 use Rattle.repair.proofs.Laws.Layout.{area-at}
 use Rattle.repair.proofs.Laws.Project.Lists.{map-set}
 use Rattle.repair.proofs.Laws.Improve.Edges.{every-append}

@@ -18,13 +18,13 @@ use Rattle.mesh.specs.declared.element.Tet.{Tet}
 use Rattle.mesh.specs.declared.star.Index.{Index}
 use Rattle.mesh.specs.Words.{wordAt, pointsOf}
 use Rattle.mesh.specs.Complex.{mem, keep}
-use Rattle.mesh.specs.Tests.{every, nodup, under}
+use Rattle.mesh.specs.Tests.{every, nodup, under, any}
 use Rattle.mesh.specs.Sets.{among}
 use Rattle.mesh.specs.Element.{pair, samePair, tets, verticesOf}
 use Rattle.mesh.specs.Intake.{wellNumbered}
-use Rattle.mesh.specs.List.{gone}
-use Rattle.mesh.specs.Star.{goneWord, Complete}
-use Rattle.mesh.specs.About.{hasOne, starAll, members, entriesOf, aboutList, aboutIn, elementsIn}
+use Rattle.mesh.specs.inside.List.{gone}
+use Rattle.mesh.specs.inside.Star.{goneWord, Complete}
+use Rattle.mesh.specs.inside.About.{hasOne, starAll, members, entriesOf, aboutList, aboutIn, elementsIn}
 use Rattle.mesh.specs.Measure.{measure}
 use Rattle.mesh.proofs.Laws.Bools.{and-left, and-right}
 use Rattle.mesh.proofs.Laws.Complex.Sets.{clash, nope, or-cases, or-right, mem-cases, mem-nil}
@@ -36,9 +36,9 @@ use Rattle.mesh.proofs.Laws.Star.Calls.{Answered}
 use Rattle.mesh.proofs.Laws.About.Members.{entries-few}
 use Rattle.mesh.proofs.Laws.About.Answer.{about-count, about-answered}
 use Rattle.mesh.proofs.Laws.About.Calls.{Copied, about-elements, about-many}
-use Rattle.repair.specs.Mesh.{Mesh, any, has}
+use Rattle.repair.specs.Mesh.{Mesh, has}
 use Rattle.repair.specs.Improve.{State, about, collapsed, gains}
-use Rattle.repair.specs.Layout.{Room, Stands, Pairs, Same, pairsAt, pairsOf, pairsIn, slotsIn, liveIn, slotOk}
+use Rattle.repair.specs.inside.Layout.{Room, Stands, Pairs, Same, pairsAt, pairsOf, pairsIn, slotsIn, liveIn, slotOk}
 use Rattle.repair.proofs.Laws.Layout.{room-laid}
 use Rattle.repair.proofs.Laws.Replace.Pairs.{pairs-few, pair-here}
 use Rattle.mesh.proofs.Laws.Intake.Reads.{length-tets}

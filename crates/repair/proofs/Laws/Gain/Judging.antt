@@ -22,10 +22,10 @@ use Rattle.mesh.specs.Tests.{every, nodup}
 use Rattle.mesh.specs.Element.{pair, tets, verticesOf}
 use Rattle.mesh.specs.Measure.{Measure, measure, badCount, lowestOf, measuredOf}
 use Rattle.mesh.proofs.Laws.Bools.{clash}
-use Rattle.repair.specs.declared.tally.Tally.{Tally}
+use Rattle.repair.specs.declared.quality.Tally.{Tally}
 use Rattle.repair.specs.Improve.{image, imageOf, collapsed, gains}
-use Rattle.repair.specs.Layout.{pairsOf}
-use Rattle.repair.specs.Tally.{started, counted, refusedOf, tallied, allowed, judged, Judged}
+use Rattle.repair.specs.inside.Layout.{pairsOf}
+use Rattle.repair.specs.inside.Quality.{started, counted, refusedOf, tallied, allowed, judged, Judged}
 use Rattle.repair.proofs.Laws.Measured.{measured-above, measured-score}
 use Rattle.repair.proofs.Laws.Gain.Tallies.{elementAt, tets-next, tets-none, counted-few, counted-bad, tallied-lowest, tallied-bad}
 

@@ -16,8 +16,8 @@ use Rattle.mesh.specs.Words.{wordAt}
 use Rattle.mesh.specs.Element.{tet, tets}
 use Rattle.mesh.specs.Measure.{Measure, badCount, lowestOf}
 use Rattle.mesh.proofs.Laws.Bools.{split}
-use Rattle.repair.specs.declared.tally.Tally.{Tally}
-use Rattle.repair.specs.Tally.{started, counted, tallied}
+use Rattle.repair.specs.declared.quality.Tally.{Tally}
+use Rattle.repair.specs.inside.Quality.{started, counted, tallied}
 
 -- the element whose four words begin at p
 abbrev pub elementAt : List ℕ → ℕ → Tet

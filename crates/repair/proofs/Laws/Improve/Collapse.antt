@@ -8,17 +8,18 @@ use Prim.Native.Nat.{ℕ}
 use borrow.Author.Tests.{eqb-true, eqb-false, eq-eqb, ne-eqb}
 use lib.Dec.{eqb}
 use Rattle.mesh.specs.declared.element.Tet.{Tet}
-use Rattle.mesh.specs.Complex.{mem, sub, within, keep, Nodup, Proper}
-use Rattle.mesh.specs.Tests.{nodup}
-use Rattle.mesh.specs.Moves.{onto, collapse, Step, collapses}
+use Rattle.mesh.specs.Complex.{mem, sub, within, keep, Nodup}
+use Rattle.mesh.specs.inside.Complex.{Proper}
+use Rattle.mesh.specs.Tests.{nodup, any}
+use Rattle.mesh.specs.inside.Moves.{collapse, Step, collapses}
+use Rattle.mesh.specs.Feature.{onto, linkOk}
 use Rattle.mesh.specs.Element.{pair, verticesOf}
-use Rattle.mesh.specs.Feature.{linkOk}
 use Rattle.mesh.proofs.Laws.Complex.Sets.{split, nope, clash, same, or-cases, or-left, or-right, out-head, out-tail}
 use Rattle.mesh.proofs.Laws.Link.Keys.{Fours, proper-fours}
 use Rattle.mesh.proofs.Laws.Link.Labels.{onto-member, onto-other, onto-a}
 use Rattle.mesh.proofs.Laws.Link.Together.{linkOk-collapsible}
 use Rattle.mesh.proofs.Laws.Complex.Collapse.{onto-cases}
-use Rattle.repair.specs.Mesh.{any, has}
+use Rattle.repair.specs.Mesh.{has}
 use Rattle.repair.specs.Improve.{image, imageOf, collapsed}
 
 -- ---- b in the place of a

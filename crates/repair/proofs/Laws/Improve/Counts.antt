@@ -14,7 +14,8 @@ use Rattle.geometry.specs.declared.bounds.Options.{Options}
 use Rattle.geometry.specs.Bounds.{spacing}
 use Rattle.mesh.specs.declared.element.Pair.{Pair}
 use Rattle.mesh.specs.declared.element.Tet.{Tet}
-use Rattle.mesh.specs.Complex.{mem, Nodup, Proper}
+use Rattle.mesh.specs.Complex.{mem, Nodup}
+use Rattle.mesh.specs.inside.Complex.{Proper}
 use Rattle.mesh.specs.Tests.{every, nodup}
 use Rattle.mesh.specs.Element.{verticesOf}
 use Rattle.mesh.specs.Group.{numbers, sameRanks, rankOf, groupOf}

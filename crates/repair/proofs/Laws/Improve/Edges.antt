@@ -13,7 +13,8 @@ use Rattle.geometry.specs.Literals.{threeQuarters}
 use Rattle.mesh.specs.declared.element.Pair.{Pair}
 use Rattle.mesh.specs.declared.element.Tet.{Tet}
 use Rattle.mesh.specs.Sort.{sort, uniqueAfter, unique}
-use Rattle.mesh.specs.Complex.{keep, IsElement, Proper}
+use Rattle.mesh.specs.Complex.{keep}
+use Rattle.mesh.specs.inside.Complex.{IsElement, Proper}
 use Rattle.mesh.specs.Tests.{every}
 use Rattle.mesh.specs.Element.{samePair, verticesOf}
 use Rattle.mesh.specs.Measure.{Measure, isBad}

@@ -8,7 +8,8 @@ use Prim.Native.Nat.{ℕ, _<_}
 use native.Mathlib.Omega.{arith}
 use borrow.Author.Tests.{not-true, not-false, lt-ltb}
 use Rattle.mesh.specs.declared.element.Tet.{Tet}
-use Rattle.mesh.specs.Complex.{IsElement, mem, sub, Sub, Nodup, Proper}
+use Rattle.mesh.specs.Complex.{mem, sub, Sub, Nodup}
+use Rattle.mesh.specs.inside.Complex.{IsElement, Proper}
 use Rattle.mesh.specs.Tests.{every, nodup, under}
 use Rattle.mesh.specs.Element.{verticesOf}
 use Rattle.mesh.specs.Boundary.{boundaryNumber}

@@ -19,8 +19,9 @@ use Rattle.geometry.specs.Score.{score}
 use Rattle.mesh.specs.declared.element.Tet.{Tet}
 use Rattle.mesh.specs.declared.element.Triple.{Triple}
 use Rattle.mesh.specs.Words.{pointAt}
-use Rattle.mesh.specs.Complex.{Proper, alternating}
-use Rattle.mesh.specs.Moves.{Run, start, then}
+use Rattle.mesh.specs.Complex.{alternating}
+use Rattle.mesh.specs.inside.Complex.{Proper}
+use Rattle.mesh.specs.inside.Moves.{Run, start, then}
 use Rattle.mesh.specs.Tests.{every}
 use Rattle.mesh.specs.Element.{verticesOf, keyOf}
 use Rattle.mesh.specs.Boundary.{allFaces, withKey}

@@ -14,16 +14,17 @@ use Rattle.geometry.specs.Units.{unitsOf}
 use Rattle.geometry.specs.Bounds.{spacing}
 use Rattle.mesh.specs.declared.element.Pair.{Pair}
 use Rattle.mesh.specs.declared.element.Tet.{Tet}
-use Rattle.mesh.specs.Complex.{mem, Proper}
-use Rattle.mesh.specs.Tests.{nodup}
-use Rattle.mesh.specs.Moves.{Run, then}
+use Rattle.mesh.specs.Complex.{mem}
+use Rattle.mesh.specs.inside.Complex.{Proper}
+use Rattle.mesh.specs.Tests.{nodup, any}
+use Rattle.mesh.specs.inside.Moves.{Run, then}
 use Rattle.mesh.specs.Element.{pair, tet, verticesOf}
 use Rattle.mesh.specs.Feature.{linkOk}
 use Rattle.mesh.specs.Measure.{Measure}
 use Rattle.mesh.proofs.Laws.Complex.Sets.{split, nope, clash, or-left, and-fst, and-snd, mem-cases, out-head, out-tail}
 use Rattle.mesh.proofs.Laws.Complex.Steps.{run-keeps}
 use Rattle.mesh.proofs.Laws.Link.Members.{kept-elim, kept-intro}
-use Rattle.repair.specs.Mesh.{Mesh, any, has}
+use Rattle.repair.specs.Mesh.{Mesh, has}
 use Rattle.repair.specs.Improve.{State, stratumOf, stratumRule, image, imageOf, about, collapsed, go, rounds}
 use Rattle.repair.specs.Wholeness.{Exact}
 use Rattle.repair.proofs.Laws.Improve.Single.{Distinct, size, Goes, goes}

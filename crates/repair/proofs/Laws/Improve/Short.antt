@@ -12,8 +12,8 @@ use Rattle.mesh.specs.Sort.{sort, unique}
 use Rattle.mesh.specs.Complex.{keep}
 use Rattle.mesh.specs.Tests.{every}
 use Rattle.mesh.specs.Element.{samePair}
-use Rattle.mesh.specs.List as slots
-use Rattle.mesh.specs.Short.{short, leEdge, shortEdges}
+use Rattle.mesh.specs.inside.List as slots
+use Rattle.mesh.specs.inside.Short.{short, leEdge, shortEdges}
 use Rattle.mesh.specs.Measure.{measure, isBad}
 use Rattle.mesh.proofs.Laws.Bools.{and-left, and-right}
 use Rattle.repair.specs.Mesh.{edgesOf, allEdges}

@@ -8,7 +8,7 @@ use Rattle.mesh.specs.declared.element.Tet.{Tet}
 use Rattle.mesh.specs.declared.element.Triple.{Triple}
 use Rattle.mesh.specs.Element.{keyOf}
 use Rattle.mesh.specs.Boundary.{allFaces, withKey, boundaryNumber}
-use Rattle.mesh.specs.Surface
+use Rattle.mesh.specs.inside.Surface
 use Rattle.mesh.proofs.Laws.Complex.Sets.{split}
 use Rattle.mesh.proofs.Laws.Boundary.Meaning.{fine}
 use Rattle.repair.specs.Mesh.{Mesh}

@@ -10,16 +10,16 @@ use Rattle.mesh.specs.declared.star.Index.{Index}
 use Rattle.mesh.specs.Complex.{keep}
 use Rattle.mesh.specs.Tests.{every, nodup}
 use Rattle.mesh.specs.Element.{pair, tets, verticesOf}
-use Rattle.mesh.specs.Star.{Complete, starOf, starList, starred}
-use Rattle.mesh.specs.About.{elementsIn}
+use Rattle.mesh.specs.inside.Star.{Complete, starOf, starList, starred}
+use Rattle.mesh.specs.inside.About.{elementsIn}
 use Rattle.mesh.proofs.Laws.Intake.Reads.{length-tets}
 use Rattle.mesh.proofs.Laws.List.Bad.{keep-few}
 use Rattle.mesh.proofs.Laws.Star.Calls.{Answered, star-count, star-answered}
 use Rattle.mesh.proofs.Laws.About.Calls.{Copied, pair-elements, pair-many}
 use Rattle.repair.specs.Mesh.{Mesh, has}
 use Rattle.repair.specs.Improve.{State, stratumOf, stratumRule, pairOk}
-use Rattle.repair.specs.Layout.{Room, Stands, Same, slotsIn, liveIn}
-use Rattle.repair.specs.PairOk.{elementsLink}
+use Rattle.repair.specs.inside.Layout.{Room, Stands, Same, slotsIn, liveIn}
+use Rattle.repair.specs.inside.improve.PairTest.{elementsLink}
 use Rattle.repair.proofs.Laws.Layout.{room-laid}
 use Rattle.repair.proofs.Laws.Same.{same-trans, same-wider, same-front}
 use Rattle.repair.proofs.Laws.PairOk.Slots.{about-different, about-links, pair-links}

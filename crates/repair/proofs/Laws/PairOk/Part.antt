@@ -11,16 +11,15 @@ use borrow.Author.Tests.{le-leb}
 use borrow.Rule.Slice.PartMut.{midOf, putMid, mid-len}
 use Rattle.mesh.specs.declared.element.Tet.{Tet}
 use Rattle.mesh.specs.Complex.{sub}
-use Rattle.mesh.specs.Tests.{every, nodup}
+use Rattle.mesh.specs.Tests.{every, nodup, any}
 use Rattle.mesh.specs.Element.{tets, verticesOf}
-use Rattle.mesh.specs.Feature.{bitsOf, linkOk}
-use Rattle.mesh.specs.LinkRows.{linkFits, linkOkIn}
+use Rattle.mesh.specs.Feature.{bitsOf, linkOk, linkFits, linkOkIn}
 use Rattle.mesh.specs.Manifold.{Tested}
 use Rattle.mesh.proofs.Laws.Parts.{side}
 use Rattle.mesh.proofs.Laws.Star.Calls.{tets-same}
-use Rattle.repair.specs.Mesh.{any, has}
-use Rattle.repair.specs.Layout.{Same}
-use Rattle.repair.specs.PairOk.{elementsLink}
+use Rattle.repair.specs.Mesh.{has}
+use Rattle.repair.specs.inside.Layout.{Same}
+use Rattle.repair.specs.inside.improve.PairTest.{elementsLink}
 use Rattle.repair.proofs.Laws.Same.{same-put}
 
 -- elements at the front of a part

@@ -9,9 +9,9 @@ use lib.ListN.{drop, drop-of-length-le}
 use lib.Seq.{drop-cons}
 use Rattle.mesh.specs.declared.element.Tet.{Tet}
 use Rattle.mesh.specs.Element.{tet, tets}
-use Rattle.mesh.specs.Intake.{tetAt}
+use Rattle.mesh.specs.inside.Intake.{tetAt}
 use Rattle.mesh.proofs.Laws.Intake.Reads.{length-tets, tets-at}
-use Rattle.repair.specs.Mesh.{any}
+use Rattle.mesh.specs.Tests.{any}
 
 module _ (p : Tet → Bool) (n : ℕ) (s : List ℕ) (i : ℕ) where
   -- one of those from the i-th on passes where one of all does

@@ -11,20 +11,20 @@ use borrow.Author.Tests.{eqb-true, ltb-true}
 use Rattle.geometry.specs.declared.bounds.Options.{Options}
 use Rattle.mesh.specs.declared.element.Tet.{Tet}
 use Rattle.mesh.specs.Complex.{sub, keep}
-use Rattle.mesh.specs.Tests.{every, under, nodup}
+use Rattle.mesh.specs.Tests.{every, under, nodup, any}
 use Rattle.mesh.specs.Element.{pair, verticesOf}
 use Rattle.mesh.specs.Feature.{bitsOf, linkOk}
 use Rattle.mesh.specs.Intake.{wellNumbered}
-use Rattle.mesh.specs.List.{gone}
-use Rattle.mesh.specs.Star.{goneWord}
+use Rattle.mesh.specs.inside.List.{gone}
+use Rattle.mesh.specs.inside.Star.{goneWord}
 use Rattle.mesh.proofs.Laws.Complex.Sets.{split, clash, nope, or-cases, or-left, and-fst, and-snd}
 use Rattle.mesh.proofs.Laws.Link.Simplices.{every-mem}
 use Rattle.mesh.proofs.Laws.Link.Members.{every-elim}
 use Rattle.mesh.proofs.Laws.Link.Order.{linkOk-keep}
-use Rattle.repair.specs.Mesh.{Mesh, any, has}
+use Rattle.repair.specs.Mesh.{Mesh, has}
 use Rattle.repair.specs.Improve.{stratumOf, stratumRule, pairOk}
-use Rattle.repair.specs.Layout.{slotOk}
-use Rattle.repair.specs.PairOk.{elementsLink}
+use Rattle.repair.specs.inside.Layout.{slotOk}
+use Rattle.repair.specs.inside.improve.PairTest.{elementsLink}
 
 -- ---- slots with a vertex
 

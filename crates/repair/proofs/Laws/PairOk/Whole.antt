@@ -11,13 +11,13 @@ use Rattle.mesh.specs.declared.star.Index.{Index}
 use Rattle.mesh.specs.Words.{wordAt}
 use Rattle.mesh.specs.Tests.{every, nodup}
 use Rattle.mesh.specs.Element.{pair, tets, verticesOf}
-use Rattle.mesh.specs.LinkRows as strata
-use Rattle.mesh.specs.Star.{starList, starred}
-use Rattle.mesh.specs.About.{elementsIn}
+use Rattle.mesh.specs.Feature as strata
+use Rattle.mesh.specs.inside.Star.{starList, starred}
+use Rattle.mesh.specs.inside.About.{elementsIn}
 use Rattle.repair.specs.Mesh.{Mesh}
 use Rattle.repair.specs.Improve.{State, stratumRule, pairOk}
-use Rattle.repair.specs.Layout.{Room, Stands, Same, pairsAt}
-use Rattle.repair.specs.PairOk.{elementsLink}
+use Rattle.repair.specs.inside.Layout.{Room, Stands, Same, pairsAt}
+use Rattle.repair.specs.inside.improve.PairTest.{elementsLink}
 use Rattle.repair.proofs.Laws.PairOk.Slots.{pair-no}
 use Rattle.repair.proofs.Laws.PairOk.Gathered.{Gathered, gathered, gathered-ready, gathered-pair, gathered-same}
 

@@ -1,5 +1,5 @@
--- Where two groups pair off, the pairs are such as `replace` takes (`Pairs` of specs/Layout.antt): the groups are the same, and each vertex is
--- its own partner, or no vertex is in both. Assumes nothing.
+-- Where two groups pair off, the pairs are such as `replace` takes (`Pairs` of specs/inside/Layout.antt): the groups are the same, and each
+-- vertex is its own partner, or no vertex is in both. Assumes nothing.
 use mathlib.Core.Path.{_≡_, refl, sym, ap, ap₂, subst, _∙_}
 use mathlib.Core.Logic.{inl, inr}
 use mathlib.Core.Bool.{true, false, not, _&&_}
@@ -22,8 +22,8 @@ use Rattle.mesh.proofs.Laws.Link.Members.{Decides, among-elim}
 use Rattle.mesh.proofs.Laws.Link.Simplices.{every-mem}
 use Rattle.repair.specs.Mesh.{Mesh}
 use Rattle.repair.specs.Improve.{State, capOf, activeGroup, partner, partners, pairOff}
-use Rattle.repair.specs.Layout.{Apart, Pairs, Stands}
-use Rattle.repair.specs.Pairs.{seconds, Paired}
+use Rattle.repair.specs.inside.Layout.{Apart, Pairs, Stands}
+use Rattle.repair.specs.inside.improve.Partners.{seconds, Paired}
 use Rattle.repair.proofs.Laws.Improve.Single.{ranks-sound, ranks-refl}
 use Rattle.repair.proofs.Laws.Improve.Counts.{firsts, firsts-mem, firsts-nodup, active-nodup, active-self, some-length}
 use Rattle.repair.proofs.Laws.Pairs.Rows.{below-group}

@@ -22,7 +22,7 @@ use Rattle.geometry.specs.Bounds.{stratum}
 use Rattle.mesh.specs.Words.{wordAt, zeroPoint, pointAt, pointsOf}
 use Rattle.mesh.specs.Complex.{mem, sub}
 use Rattle.mesh.specs.Feature.{bitsFrom, bitsOf}
-use Rattle.mesh.specs.Intake.{pointIn}
+use Rattle.mesh.specs.inside.Intake.{pointIn}
 use Rattle.mesh.proofs.Laws.Intake.Reads.{points-at}
 use Rattle.mesh.proofs.Laws.Complex.Sets.{split}
 use Rattle.repair.specs.Mesh.{Mesh}

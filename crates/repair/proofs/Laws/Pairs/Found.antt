@@ -11,20 +11,22 @@ use Rattle.geometry.specs.declared.bounds.Options.{Options}
 use Rattle.mesh.specs.declared.element.Pair.{Pair}
 use Rattle.mesh.specs.declared.star.Index.{Index}
 use Rattle.mesh.specs.Sort.{sort}
-use Rattle.mesh.specs.Rows.{flat, leRow}
+use Rattle.mesh.specs.inside.Rows.{leRow}
+use Rattle.mesh.specs.Words.{flat}
 use Rattle.mesh.specs.Complex.{mem, keep}
 use Rattle.mesh.specs.Tests.{every}
 use Rattle.mesh.specs.Element.{tets}
-use Rattle.mesh.specs.Group.{groupOf, groupRows}
-use Rattle.mesh.specs.List.{gone}
-use Rattle.mesh.specs.Star.{Laid}
+use Rattle.mesh.specs.Group.{groupOf}
+use Rattle.mesh.specs.inside.Group.{groupRows}
+use Rattle.mesh.specs.inside.List.{gone}
+use Rattle.mesh.specs.inside.Star.{Laid}
 use Rattle.mesh.proofs.Laws.Parts.{part-same, rest-same}
 use Rattle.mesh.proofs.Laws.Star.Chains.{complete-kept}
-use Rattle.repair.specs.declared.pairs.Run.{Run}
+use Rattle.repair.specs.declared.improve.partners.Run.{Run}
 use Rattle.repair.specs.Mesh.{Mesh}
 use Rattle.repair.specs.Improve.{State, activeGroup, partners, pairOff}
-use Rattle.repair.specs.Layout.{flagsAt, pairsAt, Room, liveIn, slotOk, Same, Stands}
-use Rattle.repair.specs.Pairs.{Ranked, membersOf, activeIn, activeOf, IsGroup, only, Paired}
+use Rattle.repair.specs.inside.Layout.{flagsAt, pairsAt, Room, liveIn, slotOk, Same, Stands}
+use Rattle.repair.specs.inside.improve.Partners.{Ranked, membersOf, activeIn, activeOf, IsGroup, only, Paired}
 use Rattle.repair.proofs.Laws.Pairs.Partners.{partners-only}
 use Rattle.repair.proofs.Laws.Pairs.Pairing.{keep-below}
 use Rattle.repair.proofs.Laws.Layout.{room-laid}

@@ -16,14 +16,14 @@ use Rattle.mesh.specs.Words.{wordAt}
 use Rattle.mesh.specs.Complex.{mem, keep}
 use Rattle.mesh.specs.Tests.{every, nodup}
 use Rattle.mesh.specs.Element.{pair}
-use Rattle.mesh.specs.Star.{written}
+use Rattle.mesh.specs.inside.Star.{written}
 use Rattle.mesh.proofs.Laws.Complex.Sets.{and-fst, and-snd}
 use Rattle.mesh.proofs.Laws.Star.Written.{length-written, written-below, written-behind, written-more, written-none, written-one}
-use Rattle.repair.specs.declared.pairs.Run.{Run}
+use Rattle.repair.specs.declared.improve.partners.Run.{Run}
 use Rattle.repair.specs.Mesh.{Mesh}
 use Rattle.repair.specs.Improve.{partner, partners, pairOff}
-use Rattle.repair.specs.Layout.{flagsAt, pairsAt, pairsOf, pairsIn, Same}
-use Rattle.repair.specs.Pairs.{members, membersOf, activeIn, activeOf, IsGroup, pairWords, seconds, pairedWith, isNew, Paired}
+use Rattle.repair.specs.inside.Layout.{flagsAt, pairsAt, pairsOf, pairsIn, Same}
+use Rattle.repair.specs.inside.improve.Partners.{members, membersOf, activeIn, activeOf, IsGroup, pairWords, seconds, pairedWith, isNew, Paired}
 use Rattle.repair.proofs.Laws.Pairs.Partners.{partners-last, stopped, More, went-on, pairOff-full}
 use Rattle.repair.proofs.Laws.Pairs.Walks.{Walk, walk-start, walk-turn, walk-vertex, walk-yes, walk-no, walk-none}
 

@@ -17,7 +17,7 @@ use Rattle.mesh.proofs.Laws.Complex.Sets.{split, clash, nope, or-left, and-fst,
 use Rattle.mesh.proofs.Laws.Star.Chains.{mem-either}
 use Rattle.repair.specs.Mesh.{Mesh}
 use Rattle.repair.specs.Improve.{capOf, partner, partners, pairOff}
-use Rattle.repair.specs.Pairs.{only, seconds, isNew}
+use Rattle.repair.specs.inside.improve.Partners.{only, seconds, isNew}
 
 -- ---- lists without repetition
 

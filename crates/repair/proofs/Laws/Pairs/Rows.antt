@@ -13,12 +13,14 @@ use lib.Seq.{drop-drop, take-take, getD-take, getD-drop}
 use Rattle.geometry.specs.declared.point.Point.{Point}
 use Rattle.geometry.specs.declared.bounds.Options.{Options}
 use Rattle.mesh.specs.declared.star.Index.{Index}
-use Rattle.mesh.specs.Words.{wordAt}
-use Rattle.mesh.specs.Sort.{sort, ordered, headed, unique, uniqueAfter}
-use Rattle.mesh.specs.Rows.{rows, flat, leRow, eqRow, fitRows, run, runLength, reaches, firstAtLeast}
+use Rattle.mesh.specs.Words.{wordAt, flat}
+use Rattle.mesh.specs.Sort.{sort, unique, uniqueAfter}
+use Rattle.mesh.specs.inside.Sort.{ordered, headed}
+use Rattle.mesh.specs.inside.Rows.{rows, leRow, eqRow, fitRows, run, runLength, reaches, firstAtLeast}
 use Rattle.mesh.specs.Complex.{mem, keep}
 use Rattle.mesh.specs.Tests.{every}
-use Rattle.mesh.specs.Group.{runs, sameFirst, numbers, sameRanks, rankOf, groupOf, rankWords, groupRow, vertexIn, groupRows}
+use Rattle.mesh.specs.Group.{numbers, sameRanks, rankOf, groupOf}
+use Rattle.mesh.specs.inside.Group.{runs, sameFirst, rankWords, groupRow, vertexIn, groupRows}
 use Rattle.mesh.proofs.Laws.Bools.{and-left}
 use Rattle.mesh.proofs.Laws.Complex.Sets.{split, clash, nope, keep-mem}
 use Rattle.mesh.proofs.Laws.Sort.{ordered-tail, sort-ordered}
@@ -29,8 +31,8 @@ use Rattle.mesh.proofs.Laws.Halving.{First, first-at-least}
 use Rattle.mesh.proofs.Laws.Manifold.Fill.{shape-numbered, numbers-mem}
 use Rattle.mesh.proofs.Laws.Manifold.RowRuns.{run-turn, sorted-runs}
 use Rattle.mesh.proofs.Laws.Group.Runs.{run-of-vertex}
-use Rattle.repair.specs.declared.pairs.Run.{Run}
-use Rattle.repair.specs.Pairs.{Ranked, members, membersOf, IsGroup}
+use Rattle.repair.specs.declared.improve.partners.Run.{Run}
+use Rattle.repair.specs.inside.improve.Partners.{Ranked, members, membersOf, IsGroup}
 use Rattle.repair.proofs.Laws.Improve.Single.{ranks-refl}
 use Rattle.repair.proofs.Laws.Improve.Edges.{every-keep}
 use Rattle.repair.proofs.Laws.Improve.Counts.{some-length}

@@ -18,11 +18,11 @@ use Rattle.mesh.specs.Complex.{mem, keep}
 use Rattle.mesh.specs.Tests.{every}
 use Rattle.mesh.proofs.Laws.Complex.Sets.{split, and-fst, and-snd, or-left}
 use Rattle.repair.proofs.Laws.Gain.Judging.{pairs-next}
-use Rattle.repair.specs.declared.pairs.Run.{Run}
+use Rattle.repair.specs.declared.improve.partners.Run.{Run}
 use Rattle.repair.specs.Mesh.{Mesh}
 use Rattle.repair.specs.Improve.{capOf, partner}
-use Rattle.repair.specs.Layout.{pairsOf}
-use Rattle.repair.specs.Pairs.{members, activeIn, activeOf, IsGroup, seconds, pairedWith}
+use Rattle.repair.specs.inside.Layout.{pairsOf}
+use Rattle.repair.specs.inside.improve.Partners.{members, activeIn, activeOf, IsGroup, seconds, pairedWith}
 
 -- ---- rows
 

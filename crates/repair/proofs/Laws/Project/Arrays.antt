@@ -10,9 +10,9 @@ use lib.ListN.{length, getD, take, set, List·getD-map}
 use lib.Seq.{getD-take}
 use Rattle.geometry.specs.declared.point.Point.{Point}
 use Rattle.geometry.specs.Float.{_+₆₄_, _*₆₄_, total}
-use Rattle.repair.specs.declared.row.Row as row
+use Rattle.repair.specs.declared.project.field_rows.Row as row
 use Rattle.repair.specs.Project.{entry, smallerSize, pivot, exchanged, products}
-use Rattle.repair.specs.Solve.{rowOf, rowsOf, Shaped, window, scaledOn, displacement}
+use Rattle.repair.specs.inside.project.Solve.{rowOf, rowsOf, Shaped, window, scaledOn, displacement}
 use Rattle.repair.proofs.Laws.Project.Elimination.{pivot-turn, clearedAt, clearedFrom, clear-turn, clear-end}
 use Rattle.repair.proofs.Laws.Project.Window.{window-long, window-row, window-entry, window-set, window-exchanged, shaped-exchanged, pivoted}
 use Rattle.repair.proofs.Laws.Project.Rows.{rows-long}

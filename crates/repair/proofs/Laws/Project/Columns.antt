@@ -9,7 +9,7 @@ use lib.Ieee.{Float, nan}
 use lib.ListN.{getD}
 use Rattle.mesh.proofs.Laws.Intake.Chains.{fails-by, holds-by}
 use Rattle.repair.specs.Project.{entry, pivot, exchanged, solvedAt, solved}
-use Rattle.repair.specs.Solve.{Shaped, window}
+use Rattle.repair.specs.inside.project.Solve.{Shaped, window}
 use Rattle.repair.proofs.Laws.Project.Window.{serves, pivoted, solved-turn, solved-fail}
 use Rattle.repair.proofs.Laws.Project.Arrays.{corner-entry, exchange-shaped, exchange-corner}
 

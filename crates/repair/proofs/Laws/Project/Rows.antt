@@ -8,8 +8,8 @@ use lib.ListN.{length, take, length-map}
 use lib.Seq.{length-take-le}
 use Rattle.geometry.specs.Float.{zero64}
 use Rattle.mesh.specs.Words.{zeroPoint}
-use Rattle.repair.specs.declared.row.Row.{Row}
-use Rattle.repair.specs.Solve.{rowOf, rowsOf}
+use Rattle.repair.specs.declared.project.field_rows.Row.{Row}
+use Rattle.repair.specs.inside.project.Solve.{rowOf, rowsOf}
 
 -- a row to stand where there is none
 abbrev pub zeroRow : Row

@@ -17,11 +17,11 @@ use Rattle.geometry.specs.Point.{difference}
 use Rattle.geometry.specs.Field.{value}
 use Rattle.mesh.specs.Tests.{every}
 use Rattle.mesh.proofs.Laws.Boundary.Faces.{every-map}
-use Rattle.repair.specs.declared.row.Row as row
+use Rattle.repair.specs.declared.project.field_rows.Row as row
 use Rattle.repair.specs.declared.project.Projected.{Projected}
 use Rattle.repair.specs.declared.project.Projected.the-variants.{Found, Nothing}
 use Rattle.repair.specs.Project.{Locked, lockedOf, held, finitePoint, extent, Row, usable, normalised, freed, matrix, solved, Step, ended, onward, onwardFrom, step, steps}
-use Rattle.repair.specs.Solve.{outcome, displacement}
+use Rattle.repair.specs.inside.project.Solve.{outcome, displacement}
 
 -- ---- the point moved
 

@@ -17,7 +17,7 @@ use borrow.Author.Tests.{eqb-true, eqb-false}
 use Rattle.mesh.proofs.Laws.Bools.{split}
 use Rattle.mesh.proofs.Laws.Parts.{getD-any}
 use Rattle.repair.specs.Project.{finite, entry, pivot, exchanged, divideFrom, cleared, solvedAt, solved}
-use Rattle.repair.specs.Solve.{Shaped, window}
+use Rattle.repair.specs.inside.project.Solve.{Shaped, window}
 use Rattle.repair.proofs.Laws.Project.Lists.{map-set}
 
 same-or-other : (j i : ℕ) → (j ≡ i) ⊎ (j ≢ i)

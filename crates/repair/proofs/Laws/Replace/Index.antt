@@ -12,8 +12,8 @@ use lib.Seq.{getD-drop}
 use Rattle.mesh.specs.declared.element.Tet.{Tet}
 use Rattle.mesh.specs.declared.star.Index.{Index}
 use Rattle.mesh.specs.Words.{wordAt}
-use Rattle.mesh.specs.Moves.{onto}
-use Rattle.mesh.specs.Star.{goneWord, goneTet, cornerAt, lengthOf, chainOf, setChain, mayJoin, joined, Chains, Complete, Laid}
+use Rattle.mesh.specs.Feature.{onto}
+use Rattle.mesh.specs.inside.Star.{goneWord, goneTet, cornerAt, lengthOf, chainOf, setChain, mayJoin, joined, Chains, Complete, Laid}
 use Rattle.mesh.proofs.Laws.Complex.Sets.{split}
 use Rattle.mesh.proofs.Laws.Star.Layout.{laid-yes}
 use Rattle.mesh.proofs.Laws.Star.Chains.{chains-kept}
@@ -21,8 +21,8 @@ use Rattle.mesh.proofs.Laws.Star.Joining.{length-joined, joined-outside, replac
 use Rattle.mesh.proofs.Laws.Star.Calls.{tets-same}
 use Rattle.repair.specs.Mesh.{has}
 use Rattle.repair.specs.Improve.{imageOf}
-use Rattle.repair.specs.Layout.{Room, edgesAt, slotsIn}
-use Rattle.repair.specs.Replace.{slotAfter, slotAt}
+use Rattle.repair.specs.inside.Layout.{Room, edgesAt, slotsIn}
+use Rattle.repair.specs.inside.improve.Collapse.{slotAfter, slotAt}
 use Rattle.repair.proofs.Laws.Replace.Writes.{slot-corners}
 use Rattle.repair.proofs.Laws.Replace.Listed.{NoSlot}
 use Rattle.repair.proofs.Laws.Replace.Star.{After, tets-mapped}

@@ -12,9 +12,9 @@ use lib.ListN.{length, getD}
 use Rattle.mesh.specs.declared.star.Index.{Index}
 use Rattle.mesh.specs.Words.{wordAt}
 use Rattle.mesh.specs.Complex.{mem}
-use Rattle.mesh.specs.Star.{goneWord}
+use Rattle.mesh.specs.inside.Star.{goneWord}
 use Rattle.mesh.proofs.Laws.Complex.Sets.{split, mem-here, mem-there, mem-cases, mem-nil, out-head, out-tail}
-use Rattle.repair.specs.Replace.{slotAfter, slotAt, slotReplaced, slotsReplaced}
+use Rattle.repair.specs.inside.improve.Collapse.{slotAfter, slotAt, slotReplaced, slotsReplaced}
 use Rattle.repair.proofs.Laws.Replace.Slots.{after-twice}
 use Rattle.repair.proofs.Laws.Replace.Writes.{length-replaced, replaced-other, replaced-slots, replaced-slot}
 

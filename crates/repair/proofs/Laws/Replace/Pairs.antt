@@ -21,7 +21,7 @@ use Rattle.mesh.proofs.Laws.Complex.Sets.{split, clash, nope, or-right, and-fst
 use Rattle.mesh.proofs.Laws.Star.Chains.{few-below}
 use Rattle.mesh.proofs.Laws.Complex.Renumber.{map-mem}
 use Rattle.repair.specs.Improve.{image, imageOf, collapsed}
-use Rattle.repair.specs.Layout.{Apart, Pairs, pairsOf}
+use Rattle.repair.specs.inside.Layout.{Apart, Pairs, pairsOf}
 
 abbrev firstsOf : List Pair → List ℕ
 firstsOf es = map (λ e. e .a) es

@@ -10,18 +10,18 @@ use lib.Dec.{eqb}
 use Rattle.mesh.specs.declared.element.Tet.{Tet}
 use Rattle.mesh.specs.Complex.{mem, keep}
 use Rattle.mesh.specs.Tests.{every, nodup, under}
-use Rattle.mesh.specs.Moves.{onto}
+use Rattle.mesh.specs.Feature.{onto}
 use Rattle.mesh.specs.Element.{pair, tet, verticesOf}
 use Rattle.mesh.specs.Intake.{wellNumbered}
-use Rattle.mesh.specs.List.{gone}
-use Rattle.mesh.specs.Star.{goneWord, goneTet}
+use Rattle.mesh.specs.inside.List.{gone}
+use Rattle.mesh.specs.inside.Star.{goneWord, goneTet}
 use Rattle.mesh.proofs.Laws.Bools.{and-intro}
 use Rattle.mesh.proofs.Laws.Complex.Sets.{split, nope, or-cases, and-fst, and-snd, mem-here, mem-there, out-head, out-tail}
 use Rattle.mesh.proofs.Laws.Link.Labels.{onto-other}
 use Rattle.repair.specs.Mesh.{has}
 use Rattle.repair.specs.Improve.{imageOf, collapsed}
-use Rattle.repair.specs.Layout.{slotOk}
-use Rattle.repair.specs.Replace.{slotAfter}
+use Rattle.repair.specs.inside.Layout.{slotOk}
+use Rattle.repair.specs.inside.improve.Collapse.{slotAfter}
 use Rattle.repair.proofs.Laws.Improve.Collapse.{nodup-onto, merged, collapsed-merged}
 use Rattle.mesh.proofs.Laws.Complex.Collapse.{onto-cases}
 use Rattle.mesh.proofs.Laws.Complex.Tests.{nodup-sound, under-sound}
@@ -192,7 +192,7 @@ live-same nv ρ own (t ∷ ts) h =
     image : imageOf ρ t ≡ t
     image = rw (own (t .a), own (t .b), own (t .c), own (t .d)) refl
 
--- ---- the tests of src/replace.rt
+-- ---- the tests of src/improve/collapse.rt
 
 -- the last of a list's tests
 pub last-one : (q : Bool) → q ≡ (q || false)

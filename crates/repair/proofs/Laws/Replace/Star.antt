@@ -13,15 +13,15 @@ use Rattle.mesh.specs.declared.star.Index.{Index}
 use Rattle.mesh.specs.Words.{wordAt}
 use Rattle.mesh.specs.Complex.{mem}
 use Rattle.mesh.specs.Element.{tets}
-use Rattle.mesh.specs.Intake.{tetAt}
-use Rattle.mesh.specs.Star.{starOf, starList, starred, goneTet, Complete, Laid}
+use Rattle.mesh.specs.inside.Intake.{tetAt}
+use Rattle.mesh.specs.inside.Star.{starOf, starList, starred, goneTet, Complete, Laid}
 use Rattle.mesh.proofs.Laws.Complex.Sets.{split, clash, nope, or-left}
 use Rattle.mesh.proofs.Laws.Intake.Reads.{length-tets, tets-at}
 use Rattle.mesh.proofs.Laws.Star.Scan.{star-in, star-out}
 use Rattle.mesh.proofs.Laws.Star.Calls.{Answered, star-count, star-answered}
 use Rattle.repair.specs.Mesh.{has}
-use Rattle.repair.specs.Layout.{Room, slotsIn}
-use Rattle.repair.specs.Replace.{slotAfter, slotAt, slotsReplaced}
+use Rattle.repair.specs.inside.Layout.{Room, slotsIn}
+use Rattle.repair.specs.inside.improve.Collapse.{slotAfter, slotAt, slotsReplaced}
 use Rattle.repair.proofs.Laws.Replace.Slots.{after-none}
 use Rattle.repair.proofs.Laws.Replace.Writes.{slot-same}
 use Rattle.repair.proofs.Laws.Replace.Listed.{NoSlot, Met, all-met}

@@ -16,15 +16,15 @@ use Rattle.mesh.specs.Words.{wordAt}
 use Rattle.mesh.specs.Complex.{mem, keep}
 use Rattle.mesh.specs.Tests.{every}
 use Rattle.mesh.specs.Element.{pair}
-use Rattle.mesh.specs.List.{gone}
-use Rattle.mesh.specs.Star.{Complete, starList, starred, joined}
+use Rattle.mesh.specs.inside.List.{gone}
+use Rattle.mesh.specs.inside.Star.{Complete, starList, starred, joined}
 use Rattle.mesh.proofs.Laws.Complex.Sets.{split}
 use Rattle.mesh.proofs.Laws.Parts.{part-same}
 use Rattle.mesh.proofs.Laws.Star.Calls.{tets-same, written-complete}
 use Rattle.repair.specs.Mesh.{Mesh}
 use Rattle.repair.specs.Improve.{State, image, collapsed}
-use Rattle.repair.specs.Layout.{Room, Stands, flagsAt, pairsAt, edgesAt, slotsIn, liveIn, slotOk}
-use Rattle.repair.specs.Replace.{Kept, slotsReplaced}
+use Rattle.repair.specs.inside.Layout.{Room, Stands, flagsAt, pairsAt, edgesAt, slotsIn, liveIn, slotOk}
+use Rattle.repair.specs.inside.improve.Collapse.{Kept, slotsReplaced}
 use Rattle.repair.proofs.Laws.Replace.Slots.{all-ok, live-after, live-same}
 use Rattle.repair.proofs.Laws.Replace.Star.{After, star-after}
 use Rattle.repair.proofs.Laws.Layout.{room-laid}

@@ -1,4 +1,4 @@
--- The turns of the loops of src/replace.rt. Assumes nothing.
+-- The turns of the loops of src/improve/collapse.rt. Assumes nothing.
 use mathlib.Core.Path.{_≡_, refl, sym, ap, subst, _∙_}
 use mathlib.Core.Logic.{inl, inr}
 use mathlib.Core.List.{List, [], _∷_, _++_, map}
@@ -11,13 +11,13 @@ use Rattle.mesh.specs.declared.element.Tet.{Tet}
 use Rattle.mesh.specs.declared.star.Index.{Index}
 use Rattle.mesh.specs.Words.{wordAt}
 use Rattle.mesh.specs.Element.{pair}
-use Rattle.mesh.specs.Star.{starList, starRoom, slotsAbout}
+use Rattle.mesh.specs.inside.Star.{starList, starRoom, slotsAbout}
 use Rattle.mesh.proofs.Laws.Bools.{split}
 use Rattle.mesh.proofs.Laws.Star.Distinct.{length-distinct}
 use Rattle.mesh.proofs.Laws.Star.Answers.{about-short}
 use Rattle.repair.specs.Improve.{image, collapsed}
-use Rattle.repair.specs.Layout.{Room, Pairs, Stands, liveIn, slotsIn, pairsAt, pairsIn}
-use Rattle.repair.specs.Replace.{slotAfter, slotAt, putSlot, slotReplaced, slotsReplaced, Kept, Replaces, Goes, AllGo}
+use Rattle.repair.specs.inside.Layout.{Room, Pairs, Stands, liveIn, slotsIn, pairsAt, pairsIn}
+use Rattle.repair.specs.inside.improve.Collapse.{slotAfter, slotAt, putSlot, slotReplaced, slotsReplaced, Kept, Replaces, Goes, AllGo}
 use Rattle.repair.proofs.Laws.Replace.Slots.{live-same}
 use Rattle.repair.proofs.Laws.Layout.{room-laid}
 use Rattle.repair.proofs.Laws.Replace.Pairs.{collapsed-more, pair-here, pairs-drop, pairs-at, length-pairs}

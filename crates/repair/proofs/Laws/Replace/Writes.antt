@@ -10,10 +10,10 @@ use Rattle.mesh.specs.declared.element.Tet.{Tet}
 use Rattle.mesh.specs.declared.star.Index.{Index}
 use Rattle.mesh.specs.Words.{wordAt}
 use Rattle.mesh.specs.Element.{tet}
-use Rattle.mesh.specs.Intake.{tetAt}
-use Rattle.mesh.specs.Star.{cornerAt}
+use Rattle.mesh.specs.inside.Intake.{tetAt}
+use Rattle.mesh.specs.inside.Star.{cornerAt}
 use Rattle.mesh.proofs.Laws.Parts.{side}
-use Rattle.repair.specs.Replace.{slotAfter, slotAt, putSlot, slotReplaced}
+use Rattle.repair.specs.inside.improve.Collapse.{slotAfter, slotAt, putSlot, slotReplaced}
 
 -- ---- four words
 

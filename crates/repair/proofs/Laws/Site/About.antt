@@ -1,6 +1,6 @@
 -- The elements about a group as the index lists them. Assumes nothing.
 use mathlib.Core.Path.{_≡_, refl, sym, ap, ap₂, subst, _∙_}
-use mathlib.Core.Bool.{Bool, true, _||_}
+use mathlib.Core.Bool.{true}
 use mathlib.Core.List.{List, [], _∷_, map}
 use Prim.Native.Nat.{ℕ, zero, suc, _+_, _*_, _≤_, _<_}
 use native.Mathlib.Numerals.{add-one}
@@ -12,10 +12,10 @@ use Rattle.mesh.specs.declared.star.Index.{Index}
 use Rattle.mesh.specs.Words.{wordAt}
 use Rattle.mesh.specs.Complex.{mem, Nodup}
 use Rattle.mesh.specs.Element.{tets}
-use Rattle.mesh.specs.Intake.{tetAt}
-use Rattle.mesh.specs.Star.{goneTet}
-use Rattle.mesh.specs.About as Scan
-use Rattle.mesh.specs.About.{hasOne, starAll, entriesOf, aboutList, aboutIn}
+use Rattle.mesh.specs.inside.Intake.{tetAt}
+use Rattle.mesh.specs.inside.Star.{goneTet}
+use Rattle.mesh.specs.inside.About as Scan
+use Rattle.mesh.specs.inside.About.{hasOne, starAll, entriesOf, aboutList, aboutIn}
 use Rattle.mesh.proofs.Laws.Complex.Sets.{mem-here, mem-there}
 use Rattle.mesh.proofs.Laws.Link.Members.{keep-same}
 use Rattle.mesh.proofs.Laws.List.Bad.{keep-few}
@@ -24,11 +24,12 @@ use Rattle.mesh.proofs.Laws.Star.Numbers.{pass-count, pass-elements, pass-below
 use Rattle.mesh.proofs.Laws.Star.Calls.{Answered}
 use Rattle.mesh.proofs.Laws.About.Members.{entries-few}
 use Rattle.mesh.proofs.Laws.About.Answer.{about-count, about-answered}
-use Rattle.repair.specs.declared.trial.Site.{Site}
-use Rattle.repair.specs.Mesh.{any, has}
+use Rattle.repair.specs.declared.smooth.trial_scores.Site.{Site}
+use Rattle.repair.specs.Mesh.{has}
+use Rattle.mesh.specs.Tests.{any}
 use Rattle.repair.specs.Smooth.{aboutGroup}
-use Rattle.repair.specs.Layout.{slotsIn}
-use Rattle.repair.specs.Site.{members, about, Ready, Slots, Rows, Listed}
+use Rattle.repair.specs.inside.Layout.{slotsIn}
+use Rattle.repair.specs.inside.smooth.Site.{members, about, Ready, Slots, Rows, Listed}
 use Rattle.repair.proofs.Laws.Site.Near.{under-mem}
 use Rattle.repair.proofs.Laws.Site.Work.{ready-laid}
 
@@ -38,10 +39,6 @@ same-members : (w : List ℕ) (i k : ℕ) → Scan.members k i 7 w ≡ members w
 unfolding members Scan.members
 same-members w i zero = refl
 same-members w i (suc k) = ap (λ (l : List ℕ). wordAt w i ∷ l) (same-members w (i + 7) k)
-
-same-any : (p : ℕ → Bool) (vs : List ℕ) → Scan.any p vs ≡ any p vs
-same-any p [] = refl
-same-any p (v ∷ vs) = ap (λ (b : Bool). p v || b) (same-any p vs)
 
 -- ---- the listed elements
 
@@ -103,7 +100,7 @@ module _ (x : Index) (w : List ℕ) (i k : ℕ) (r : Ready x w) (g : Rows x w i 
       (λ u m. let h = pass-below (hasOne vs) ts u goneTet m in omega (arith, h, length-tets (x .room) (drop (x .slots) w)))
       ∙ ap (λ t. map (λ e. getD t e goneTet) (starAll vs ts)) z ∙ pass-elements (hasOne vs) ts goneTet
       ∙ keep-same (hasOne vs) (λ t. any (λ v. has v t) (members w i k)) ts
-      (λ t. same-any (λ v. has v t) vs ∙ ap (any (λ v. has v t)) vs-is) ∙ ap (λ t. aboutGroup t (members w i k)) (sym z)
+      (λ t. ap (any (λ v. has v t)) vs-is) ∙ ap (λ t. aboutGroup t (members w i k)) (sym z)
 
   pub listed-is : (w′ : List ℕ) (n : ℕ) (s : Site) → n ≡ length (aboutList x w i k 7) → w′ ≡ aboutIn x w i k 7
       → s ≡ record { vertices = x .vertices; group = i; count = k; area = x .area; about = n } → Listed x i k w w′ s

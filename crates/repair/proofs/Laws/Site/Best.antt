@@ -19,16 +19,16 @@ use Rattle.geometry.specs.Literals.{e-10}
 use Rattle.mesh.specs.declared.element.Tet.{Tet}
 use Rattle.mesh.specs.Tests.{every}
 use Rattle.mesh.specs.Measure.{measure, lowestOf}
-use Rattle.repair.specs.declared.trial.Trial.{Trial}
-use Rattle.repair.specs.declared.best.Best.{Best}
-use Rattle.repair.specs.declared.best.Start.{Start}
+use Rattle.repair.specs.declared.smooth.trial_scores.Trial.{Trial}
+use Rattle.repair.specs.declared.smooth.choose.Best.{Best}
+use Rattle.repair.specs.declared.smooth.choose.Start.{Start}
 use Rattle.repair.specs.declared.project.Projected.{Projected}
 use Rattle.repair.specs.declared.project.Projected.the-variants.{Found, Nothing}
 use Rattle.repair.specs.Project.{project}
 use Rattle.repair.specs.Smooth as Smooth
 use Rattle.repair.specs.Smooth.{State, mean, meanCandidates, stepCandidates, moveTo, better, allowed, tried, bestOf}
-use Rattle.repair.specs.Regions.{allowedBy, nine, candidateAt}
-use Rattle.repair.specs.Site.{stateOf, bestIn, replaced, permitted, compared, firstOf, startList}
+use Rattle.repair.specs.inside.smooth.Candidates.{allowedBy, nine, candidateAt}
+use Rattle.repair.specs.inside.smooth.Site.{stateOf, bestIn, replaced, permitted, compared, firstOf, startList}
 
 -- ---- the active fields
 

@@ -17,10 +17,11 @@ use Rattle.geometry.specs.Rank.{rank}
 use Rattle.mesh.specs.declared.star.Index.{Index}
 use Rattle.mesh.specs.Words.{pointsOf}
 use Rattle.mesh.specs.Sort.{sort, unique}
-use Rattle.mesh.specs.Rows.{rows, run, runLength, fitRows}
+use Rattle.mesh.specs.inside.Rows.{rows, run, runLength, fitRows}
 use Rattle.mesh.specs.Complex.{keep, Nodup}
 use Rattle.mesh.specs.Tests.{under}
-use Rattle.mesh.specs.Group.{runs, sameFirst, numbers, sameRanks, leRanks, ofRank, groups, vertexIn}
+use Rattle.mesh.specs.Group.{numbers, sameRanks, leRanks, ofRank, groups}
+use Rattle.mesh.specs.inside.Group.{runs, sameFirst, vertexIn}
 use Rattle.mesh.proofs.Laws.Complex.Sets.{split}
 use Rattle.mesh.proofs.Laws.Rows.{length-rows, drop-rows, take-rows}
 use Rattle.mesh.proofs.Laws.Star.Distinct.{rising-once}
@@ -28,7 +29,7 @@ use Rattle.mesh.proofs.Laws.Manifold.RowRuns.{run-first, run-turn}
 use Rattle.mesh.proofs.Laws.Group.Runs.{runs-are-groups}
 use Rattle.mesh.proofs.Laws.Intake.Reads.{length-points}
 use Rattle.repair.specs.Smooth.{smoothGroup, smoothGroups}
-use Rattle.repair.specs.Site.{members, stateOf, Turned, Ready, Rows, meshFor, Grouped}
+use Rattle.repair.specs.inside.smooth.Site.{members, stateOf, Turned, Ready, Rows, meshFor, Grouped}
 use Rattle.repair.proofs.Laws.Site.Near.{kept-rising}
 use Rattle.mesh.proofs.Laws.Manifold.Steps.{leading-few}
 

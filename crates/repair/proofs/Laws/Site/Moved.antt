@@ -17,9 +17,9 @@ use Rattle.mesh.specs.Words.{wordAt, pointAt, zeroPoint, pointsOf}
 use Rattle.mesh.specs.Complex.{mem, Nodup}
 use Rattle.mesh.proofs.Laws.Complex.Sets.{split, mem-cases, clash}
 use Rattle.mesh.proofs.Laws.Intake.Reads.{length-points}
-use Rattle.repair.specs.declared.trial.Site.{Site}
+use Rattle.repair.specs.declared.smooth.trial_scores.Site.{Site}
 use Rattle.repair.specs.Smooth.{keptOn, placed, moveTo}
-use Rattle.repair.specs.Site.{members, trialPoints, Put, Placed, newParameters, newPoint}
+use Rattle.repair.specs.inside.smooth.Site.{members, trialPoints, Put, Placed, newParameters, newPoint}
 use Rattle.repair.proofs.Laws.Smooth.Placed.{length-placed, placed-other}
 
 -- ---- the point of a vertex afterwards

@@ -33,7 +33,7 @@ use Rattle.repair.specs.Smooth as Smooth
 use Rattle.repair.specs.Smooth.{aboutGroup, bestFor, taken, smoothGroup, smoothGroups}
 use Rattle.repair.specs.Step as Step
 use Rattle.repair.specs.Step.{Call, Pass, held, callOf, triplesOf, meshOf, floatsOf, elementWords, tripleWords, over, committed, given, lengthsOf, resultOf, step}
-use Rattle.repair.specs.Site.{stateOf, Turned, meshRead, meshFor}
+use Rattle.repair.specs.inside.smooth.Site.{stateOf, Turned, meshRead, meshFor}
 use Rattle.repair.proofs.Laws.Improve.Intake.{Passed, intake-passed}
 use Rattle.repair.proofs.Laws.Lengths.{LongEnough, long-enough}
 

@@ -13,12 +13,12 @@ use Rattle.geometry.specs.declared.bounds.Options.{Options}
 use Rattle.mesh.specs.declared.star.Index.{Index}
 use Rattle.mesh.specs.Words.{wordAt, pointsOf, inside, copied}
 use Rattle.mesh.specs.Sort.{sort}
-use Rattle.mesh.specs.Rows.{rows, leRow}
+use Rattle.mesh.specs.inside.Rows.{rows, leRow}
 use Rattle.mesh.specs.Tests.{every}
 use Rattle.mesh.specs.Element.{tets}
-use Rattle.mesh.specs.Group.{groupRows, groupFits, groupedArea}
+use Rattle.mesh.specs.inside.Group.{groupRows, groupFits, groupedArea}
 use Rattle.mesh.specs.Intake.{wellNumbered}
-use Rattle.mesh.specs.Star.{Laid, Complete, built}
+use Rattle.mesh.specs.inside.Star.{Laid, Complete, built}
 use Rattle.mesh.proofs.Laws.Bools.{and-intro}
 use Rattle.mesh.proofs.Laws.Rows.{rows-same}
 use Rattle.mesh.proofs.Laws.Boundary.Faces.{tets-kept}
@@ -26,8 +26,8 @@ use Rattle.mesh.proofs.Laws.Intake.Reads.{length-points}
 use Rattle.mesh.proofs.Laws.Group.Area.{grouped-rows}
 use Rattle.mesh.proofs.Laws.Star.Hanging.{length-built, built-outside, built-complete}
 use Rattle.mesh.proofs.Laws.Star.Calls.{tets-same}
-use Rattle.repair.specs.Layout.{Room}
-use Rattle.repair.specs.Site.{usedWords, Ready, Slots, Grouped}
+use Rattle.repair.specs.inside.Layout.{Room}
+use Rattle.repair.specs.inside.smooth.Site.{usedWords, Ready, Slots, Grouped}
 use Rattle.repair.proofs.Laws.Site.Work.{used-laid}
 
 module _ (o : Options) (x : Index) (P : List Float) (els w₀ w₁ w₂ w₃ : List ℕ) (R : Room x (x .room) (256 * x .room + 32 * x .vertices + 1024))

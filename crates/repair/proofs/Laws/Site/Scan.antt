@@ -13,9 +13,9 @@ use Rattle.geometry.proofs.Laws.Float.Order.{not-below-smaller}
 use Rattle.mesh.specs.Words.{wordAt}
 use Rattle.mesh.specs.Complex.{mem}
 use Rattle.mesh.specs.Tests.{every}
-use Rattle.mesh.specs.Intake.{tetAt}
+use Rattle.mesh.specs.inside.Intake.{tetAt}
 use Rattle.mesh.specs.Measure.{measure, scoreOf, lowestOf}
-use Rattle.repair.specs.Site.{members, about}
+use Rattle.repair.specs.inside.smooth.Site.{members, about}
 
 -- ---- vertices of a group
 

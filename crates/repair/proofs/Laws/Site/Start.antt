@@ -11,12 +11,12 @@ use Rattle.geometry.specs.Bounds.{canonical}
 use Rattle.mesh.specs.declared.element.Tet.{Tet}
 use Rattle.mesh.specs.declared.star.Index.{Index}
 use Rattle.mesh.specs.Words.{pointAt, pointsOf}
-use Rattle.mesh.specs.Star.{Laid, Complete, neighboursOf, neighbourList, neighboured}
+use Rattle.mesh.specs.inside.Star.{Laid, Complete, neighboursOf, neighbourList, neighboured}
 use Rattle.mesh.proofs.Laws.Star.Calls.{Answered, neighbours-count, neighbours-answered}
-use Rattle.repair.specs.declared.best.Start.{Start}
-use Rattle.repair.specs.Layout.{slotsIn}
+use Rattle.repair.specs.declared.smooth.choose.Start.{Start}
+use Rattle.repair.specs.inside.Layout.{slotsIn}
 use Rattle.repair.specs.Smooth.{neighbours, mean}
-use Rattle.repair.specs.Site.{Ready, Started}
+use Rattle.repair.specs.inside.smooth.Site.{Ready, Started}
 use Rattle.repair.proofs.Laws.Site.Near.{near-is, near-most}
 use Rattle.repair.proofs.Laws.Site.Work.{ready-laid}
 use Rattle.repair.proofs.Laws.Layout.{area-at, complete-at}

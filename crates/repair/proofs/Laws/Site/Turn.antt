@@ -24,12 +24,12 @@ use Rattle.mesh.specs.Element.{tets}
 use Rattle.mesh.specs.Measure.{measure, lowestOf}
 use Rattle.mesh.proofs.Laws.Complex.Sets.{and-fst}
 use Rattle.mesh.proofs.Laws.Intake.Reads.{length-points}
-use Rattle.repair.specs.declared.trial.Site.{Site}
-use Rattle.repair.specs.declared.best.Best as Found
-use Rattle.repair.specs.declared.best.Start.{Start}
+use Rattle.repair.specs.declared.smooth.trial_scores.Site.{Site}
+use Rattle.repair.specs.declared.smooth.choose.Best as Found
+use Rattle.repair.specs.declared.smooth.choose.Start.{Start}
 use Rattle.repair.specs.Smooth.{State, Best, chosen, neighbours, meanCandidates, stepCandidates, moveTo, bestOf, aboutGroup, bestFor, taken, smoothGroup}
-use Rattle.repair.specs.Layout.{slotsIn}
-use Rattle.repair.specs.Site.{members, about, InRange, stateOf, Placed, newParameters, newPoint, Turned, bestIn, noneYet, startList, SameTo, Ready, Slots, Rows, Listed, Sited, Started, meshFor}
+use Rattle.repair.specs.inside.Layout.{slotsIn}
+use Rattle.repair.specs.inside.smooth.Site.{members, about, InRange, stateOf, Placed, newParameters, newPoint, Turned, bestIn, noneYet, startList, SameTo, Ready, Slots, Rows, Listed, Sited, Started, meshFor}
 use Rattle.repair.proofs.Laws.Site.Best.{start-candidates, best-moved}
 use Rattle.repair.proofs.Laws.Site.Work.{same-less, ready-kept, slots-kept, about-kept, group-same, group-kept}
 

@@ -6,16 +6,17 @@ use native.Mathlib.Omega.{arith}
 use lib.ListN.{length}
 use Rattle.mesh.specs.declared.element.Tet.{Tet}
 use Rattle.mesh.specs.declared.star.Index.{Index}
-use Rattle.mesh.specs.Rows.{rows}
+use Rattle.mesh.specs.inside.Rows.{rows}
 use Rattle.mesh.specs.Complex.{Nodup}
 use Rattle.mesh.specs.Tests.{every, under}
-use Rattle.mesh.specs.Intake.{tetAt, wellNumbered}
-use Rattle.mesh.specs.Star.{Laid}
+use Rattle.mesh.specs.Intake.{wellNumbered}
+use Rattle.mesh.specs.inside.Intake.{tetAt}
+use Rattle.mesh.specs.inside.Star.{Laid}
 use Rattle.mesh.proofs.Laws.Rows.{rows-same}
 use Rattle.mesh.proofs.Laws.Star.Calls.{answered-complete, answered-elements}
-use Rattle.repair.specs.Layout.{Room, slotsIn}
+use Rattle.repair.specs.inside.Layout.{Room, slotsIn}
 use Rattle.repair.proofs.Laws.Layout.{room-laid}
-use Rattle.repair.specs.Site.{members, about, SameTo, usedWords, Ready, Rows}
+use Rattle.repair.specs.inside.smooth.Site.{members, about, SameTo, usedWords, Ready, Rows}
 
 -- the areas of the index lie inside the words that are used
 pub used-laid : (x : Index) (k m : ℕ) → Room x (x .room) k → usedWords (x .vertices) (x .room) ≤ m → Laid x m

@@ -15,19 +15,20 @@ use Rattle.geometry.specs.declared.bounds.Options.{Options}
 use Rattle.geometry.specs.declared.field.Field.{Field}
 use Rattle.geometry.specs.Float.{_+₆₄_, zero64, one64}
 use Rattle.geometry.specs.Literals.{e-10, fifteenHundredths}
-use Rattle.geometry.specs.Units.{unitsOf, within}
+use Rattle.geometry.specs.Units.{unitsOf}
+use Rattle.geometry.specs.inside.Units.{within}
 use Rattle.geometry.specs.Bounds.{periodicIn}
 use Rattle.geometry.proofs.Laws.Score.Near.{Near}
 use Rattle.mesh.specs.declared.element.Tet.{Tet}
 use Rattle.mesh.specs.Words.{pointAt}
-use Rattle.mesh.specs.Tests.{every}
+use Rattle.mesh.specs.Tests.{every, any}
 use Rattle.mesh.specs.Intake.{sizedPoint, inBox}
 use Rattle.mesh.specs.Measure.{measure, determinantOf, scoreOf, lowestOf}
 use Rattle.mesh.proofs.Laws.Complex.Sets.{split, and-fst}
 use Rattle.mesh.proofs.Laws.Link.Members.{kept-elim, kept-intro, every-elim}
 use Rattle.repair.specs.declared.project.Projected.{Projected}
 use Rattle.repair.specs.declared.project.Projected.the-variants.{Found, Nothing}
-use Rattle.repair.specs.Mesh.{Mesh, any, has}
+use Rattle.repair.specs.Mesh.{Mesh, has}
 use Rattle.repair.specs.Project.{project}
 use Rattle.repair.specs.Wholeness.{Exact}
 use Rattle.repair.specs.Smooth.{State, Best, mapped, keptOn, placed, moveTo, better, allowed, tried, bestOf, aboutGroup, bestFor, taken, smoothGroup, smoothGroups}

@@ -14,7 +14,8 @@ use Rattle.mesh.specs.Complex.{mem}
 use Rattle.mesh.specs.Element.{verticesOf}
 use Rattle.mesh.specs.Measure.{determinantOf, scoreOf}
 use Rattle.mesh.proofs.Laws.Complex.Sets.{clash, nope, or-left, or-right, mem-here, mem-there, mem-cases, out-head, out-tail}
-use Rattle.repair.specs.Mesh.{any, has}
+use Rattle.repair.specs.Mesh.{has}
+use Rattle.mesh.specs.Tests.{any}
 use Rattle.repair.specs.Smooth.{placed}
 
 -- a place of a list with one place set has what was set, or what it had

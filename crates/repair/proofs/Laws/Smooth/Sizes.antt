@@ -11,7 +11,7 @@ use lib.Ieee.Fits.{down-pos}
 use borrow.Author.Tests.{ltb-true, eqb-true}
 use Rattle.geometry.specs.declared.point.Point.{Point}
 use Rattle.geometry.specs.declared.bounds.Bounds.{Bounds}
-use Rattle.geometry.specs.Units.{within}
+use Rattle.geometry.specs.inside.Units.{within}
 use Rattle.geometry.proofs.Laws.Score.Near.{Near}
 use Rattle.mesh.specs.Intake.{million, sized, sizedPoint, inBox}
 use Rattle.mesh.proofs.Laws.Complex.Sets.{or-cases, and-fst, and-snd}

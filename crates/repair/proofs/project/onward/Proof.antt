@@ -2,7 +2,7 @@
 use mathlib.Core.Path.{_∙_, ap, sym}
 use mathlib.Core.Bool.{Bool, cond}
 use Rattle.repair.specs.Project.{onward, ended}
-use Rattle.repair.specs.Solve.{rowsOf}
+use Rattle.repair.specs.inside.project.Solve.{rowsOf}
 use Rattle.repair.specs.declared.project.Projected.the-variants.{Nothing}
 use Rattle.repair.proofs.Laws.Project.Rows.{rows-long}
 use Rattle.repair.proofs.Laws.Project.Steps.{onward-none, onward-some}

@@ -6,7 +6,7 @@ use Rattle.geometry.specs.declared.point.Point.{Point}
 use Rattle.geometry.specs.Float.{_*₆₄_}
 use Rattle.geometry.specs.Literals.{e-12}
 use Rattle.repair.specs.Project.{lockedOf, extent, onward, steps}
-use Rattle.repair.specs.Solve.{locks, stepOf}
+use Rattle.repair.specs.inside.project.Solve.{locks, stepOf}
 use Rattle.repair.proofs.Laws.Project.Steps.{steps-end, steps-turn, steps-none}
 use borrow.Author.Needs.{needs}
 use Rattle.repair.proofs.project.steps.Statement.{statement}

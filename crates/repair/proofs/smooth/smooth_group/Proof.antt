@@ -8,7 +8,7 @@ use lib.ListN.{take}
 use Rattle.geometry.specs.Literals.{fifteenHundredths}
 use Rattle.repair.specs.Smooth.{bestFor, smoothGroup}
 use Rattle.repair.specs.Step.{regionsOf}
-use Rattle.repair.specs.Site.{stateOf, newParameters, newPoint, meshFor}
+use Rattle.repair.specs.inside.smooth.Site.{stateOf, newParameters, newPoint, meshFor}
 use Rattle.repair.proofs.Laws.Site.Work.{same-trans}
 use Rattle.repair.proofs.Laws.Site.Turn.{listed-range, ready₁, rows₁, slots₁, lowest₁, sited₁, best₁, turned₁, turn-fine, turn-none, turn-moved, site-once, site-vertices, site-placed}
 use borrow.Author.Needs.{needs}

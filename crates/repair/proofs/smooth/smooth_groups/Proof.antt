@@ -4,7 +4,7 @@ use Prim.Native.Nat.{_-_}
 use native.Mathlib.Omega.{arith}
 use lib.ListN.{length, take}
 use Rattle.repair.specs.Step.{regionsOf}
-use Rattle.repair.specs.Site.{Ready, Slots}
+use Rattle.repair.specs.inside.smooth.Site.{Ready, Slots}
 use Rattle.repair.proofs.Laws.Site.Work.{ready-kept, slots-kept, rows-kept}
 use Rattle.repair.proofs.Laws.Site.Groups.{Going, going-start, next-rows, next-few, going-turn, going-end}
 use borrow.Author.Needs.{needs}

@@ -13,7 +13,7 @@ use Rattle.report.specs.Format.{bytesABlock, fieldPlaces, mostVertices, 
 use Rattle.report.specs.Bytes.{listed}
 use Rattle.report.specs.Block.{Plot}
 use Rattle.report.specs.Write.{bytesOf, fileBlock, blocksOf, fileOf, Rooms, roomFor, hasRoom, fileInto, fileSize}
-use Rattle.report.specs.Put.{Put}
+use Rattle.report.specs.inside.Put.{Put}
 use Rattle.report.proofs.Laws.Write.Words.{bytes-length}
 use Rattle.report.proofs.Laws.Write.Sizes.{blocks-length}
 

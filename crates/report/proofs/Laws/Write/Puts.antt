@@ -16,7 +16,7 @@ use Rattle.mesh.proofs.Laws.Parts.{getD-any}
 use Rattle.report.specs.Format.{recordRoom, fieldSize}
 use Rattle.report.specs.Bytes.{listed}
 use Rattle.report.specs.Write.{bytesOf, totalOf, checkOf, closed, blockFront, fieldWords, placeWords}
-use Rattle.report.specs.Put.{Put}
+use Rattle.report.specs.inside.Put.{Put}
 use Rattle.report.proofs.Laws.Text.{sets-append}
 use Rattle.report.proofs.Laws.Write.Words.{bytes-length, bytes-append, total-append}
 

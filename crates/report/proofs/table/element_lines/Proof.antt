@@ -5,7 +5,7 @@ use native.Mathlib.Omega.{arith}
 use lib.ListN.{length}
 use Rattle.mesh.specs.Element.{tets}
 use Rattle.report.specs.Table.{elementLines}
-use Rattle.report.specs.Written.{Written}
+use Rattle.report.specs.inside.Written.{Written}
 use Rattle.report.proofs.Laws.Loops.{element-more}
 use borrow.Author.Needs.{needs}
 use Rattle.report.proofs.table.element_lines.Statement.{statement}

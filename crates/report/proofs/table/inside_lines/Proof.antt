@@ -9,7 +9,7 @@ use Rattle.geometry.specs.declared.field.Field.the-variants.{Level}
 use Rattle.mesh.specs.Words.{pointsOf}
 use Rattle.mesh.specs.Element.{tets}
 use Rattle.report.specs.Table.{insideCount, insideLines}
-use Rattle.report.specs.Written.{Written}
+use Rattle.report.specs.inside.Written.{Written}
 use Rattle.report.proofs.Laws.Loops.{inside-more}
 use borrow.Author.Needs.{needs}
 use Rattle.report.proofs.table.inside_lines.Statement.{statement}

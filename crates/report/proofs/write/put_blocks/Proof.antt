@@ -6,7 +6,7 @@ use lib.ListN.{length}
 use Rattle.report.specs.Format.{bytesABlock}
 use Rattle.report.specs.Bytes.{listed}
 use Rattle.report.specs.Write.{fileBlock}
-use Rattle.report.specs.Put.{Put}
+use Rattle.report.specs.inside.Put.{Put}
 use Rattle.report.proofs.Laws.Write.Puts.{put-none, put-more}
 use borrow.Author.Needs.{needs}
 use Rattle.report.proofs.write.put_blocks.Statement.{statement}

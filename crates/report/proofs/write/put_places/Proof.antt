@@ -8,7 +8,7 @@ use Rattle.geometry.specs.declared.field.Field.the-variants.{Level}
 use Rattle.report.specs.Format.{fieldPlaces, fieldSize}
 use Rattle.report.specs.Bytes.{listed}
 use Rattle.report.specs.Write.{placeWords}
-use Rattle.report.specs.Put.{Put}
+use Rattle.report.specs.inside.Put.{Put}
 use Rattle.report.proofs.Laws.Write.Puts.{put-none, place-more}
 use borrow.Author.Needs.{needs}
 use Rattle.report.proofs.write.put_places.Statement.{statement}

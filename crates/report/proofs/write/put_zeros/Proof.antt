@@ -4,7 +4,7 @@ use Prim.Native.Nat.{_+_, _-_, _*_, _≤_}
 use native.Mathlib.Omega.{arith}
 use lib.ListN.{length}
 use Rattle.mesh.specs.Words.{zeroWords}
-use Rattle.report.specs.Put.{Put}
+use Rattle.report.specs.inside.Put.{Put}
 use Rattle.report.proofs.Laws.Write.Puts.{put-none, zeros-more}
 use borrow.Author.Needs.{needs}
 use Rattle.report.proofs.write.put_zeros.Statement.{statement}

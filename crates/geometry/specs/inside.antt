@@ -1,0 +1,5 @@
+-- Definitions for contracts of private functions, for those that only a crate above calls, and for proofs. Nothing here has to be believed:
+-- laws tie it to the definitions beside this folder.
+pub mod Whole
+pub mod Units
+pub mod Word
