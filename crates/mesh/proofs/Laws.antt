@@ -1,6 +1,7 @@
 -- Laws by subject.
 pub mod Bools
 pub mod Numbers
+pub mod NumbersFrom
 pub mod Parts
 pub mod Sort
 pub mod Unique

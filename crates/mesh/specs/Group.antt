@@ -1,23 +1,16 @@
 -- Groups of vertices of equal rank (document 01, "Box": "Vertices of equal rank form a group"). Definitions only.
-use Prim.Native.Nat.{ℕ, zero, suc, _+_}
+use Prim.Native.Nat.{ℕ}
 use mathlib.Core.Bool.{Bool, true, false, cond, _&&_}
-use mathlib.Core.List.{List, [], _∷_, map}
+use mathlib.Core.List.{List, map}
 use lib.Dec.{eqb, ltb, leb}
 use lib.ListN.{length}
 use Rattle.geometry.specs.declared.point.Point.{Point}
 use Rattle.geometry.specs.declared.bounds.Options.{Options}
 use Rattle.geometry.specs.declared.bounds.Ranks.{Ranks}
 use Rattle.geometry.specs.Rank.{rank}
-use Rattle.mesh.specs.Words.{pointAt}
+use Rattle.mesh.specs.Words.{pointAt, numbers}
 use Rattle.mesh.specs.Sort.{sort, unique}
 use Rattle.mesh.specs.Complex.{keep}
-
--- ---- groups
-
--- the n numbers from k on
-unfoldable pub numbers : ℕ → ℕ → List ℕ
-numbers k zero = []
-numbers k (suc n) = k ∷ numbers (k + 1) n
 
 -- the same rank in all three directions
 abbrev pub sameRanks : Ranks → Ranks → Bool

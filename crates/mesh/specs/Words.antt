@@ -1,4 +1,4 @@
--- Words and floats in lent slices. A slice is the list of its elements: a word is a number below 2^32, a float a value of
+-- Words and floats in lent slices, and numbers in turn. A slice is the list of its elements: a word is a number below 2^32, a float a value of
 -- `lib.Ieee`. Reads past the end give zero, so that every function of the crate is total. Assumes nothing.
 use mathlib.Core.Bool.{Bool, cond, _&&_}
 use mathlib.Core.List.{List, [], _∷_, _++_}
@@ -46,6 +46,13 @@ pointAt ps v = getD ps v zeroPoint
 unfoldable pub pointsOf : ℕ → List Float → List Point
 pointsOf zero s = []
 pointsOf (suc n) s = record { x = floatAt s 0; y = floatAt s 1; z = floatAt s 2 } ∷ pointsOf n (drop 3 s)
+
+-- ---- numbers
+
+-- the n numbers from k on
+unfoldable pub numbers : ℕ → ℕ → List ℕ
+numbers k zero = []
+numbers k (suc n) = k ∷ numbers (k + 1) n
 
 -- ---- rows
 

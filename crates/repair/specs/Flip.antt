@@ -18,7 +18,7 @@ use Rattle.mesh.specs.Tests.{every, any}
 use Rattle.mesh.specs.Link.{without}
 use Rattle.mesh.specs.Element.{samePair, tet, verticesOf, cornersOf, keyOf, lePair, hasAll}
 use Rattle.mesh.specs.Boundary.{sameTriple, leTriple, allFaces, boundaryNumber, boundaryOf}
-use Rattle.mesh.specs.Group.{numbers}
+use Rattle.mesh.specs.Words.{numbers}
 use Rattle.mesh.specs.Measure.{Measure, measure, isBad, badCount, lowestOf}
 use Rattle.repair.specs.Mesh.{Mesh, Result, made, refused, allEdges}
 

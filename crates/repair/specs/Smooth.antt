@@ -17,10 +17,10 @@ use Rattle.geometry.specs.Point.{difference, norm}
 use Rattle.geometry.specs.Bounds.{spacing, periodicIn, canonical}
 use Rattle.geometry.specs.Field.{value}
 use Rattle.mesh.specs.declared.element.Tet.{Tet}
-use Rattle.mesh.specs.Words.{pointAt}
+use Rattle.mesh.specs.Words.{pointAt, numbers}
 use Rattle.mesh.specs.Complex.{keep}
 use Rattle.mesh.specs.Tests.{every, any}
-use Rattle.mesh.specs.Group.{numbers, groups}
+use Rattle.mesh.specs.Group.{groups}
 use Rattle.mesh.specs.Intake.{inBox}
 use Rattle.mesh.specs.Measure.{measure, lowestOf}
 use Rattle.repair.specs.declared.project.Projected.{Projected}

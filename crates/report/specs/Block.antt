@@ -10,7 +10,7 @@ use Rattle.geometry.specs.declared.bounds.Options.{Options}
 use Rattle.geometry.specs.declared.field.Field.{Field}
 use Rattle.geometry.specs.declared.field.Field.the-variants.{Level, Plane, Ball}
 use Rattle.geometry.specs.Float.{zero64}
-use Rattle.mesh.specs.Group.{numbers}
+use Rattle.mesh.specs.Words.{numbers}
 use Rattle.mesh.specs.Tests.{every}
 use Rattle.report.specs.Format.{wordsABlock, bytesABlock, headerKind, vertexKind, elementKind, firstRecord, vertexSize, verticesABlock, elementSize, elementsABlock, verticesPlace, elementsPlace, boundsPlace, cellsPlace, periodicPlace, passesPlace, countPlace, firstField, fieldPlaces, fieldSize, levelKind, planeKind, ballKind, mostVertices, mostElements}
 use Rattle.report.specs.Bytes.{wordIn, floatIn, pointFrom, sumOf, listed, firstOf}

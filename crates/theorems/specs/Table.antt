@@ -22,7 +22,7 @@ use Rattle.mesh.specs.declared.element.Tet.{Tet}
 use Rattle.mesh.specs.Intake.{Given, allDifferent, intake}
 use Rattle.mesh.specs.Sort.{insert, sort, unique, uniqueAfter}
 use Rattle.mesh.specs.Complex.{faces, alternating}
-use Rattle.mesh.specs.Group.{numbers}
+use Rattle.mesh.specs.Words.{numbers}
 use Rattle.repair.specs.Mesh.{Mesh, made, allEdges}
 use Rattle.repair.specs.Flip.{live, emptied, besides, listedFaces, listedEdges, replace, tryFace, tryEdge, tryFaces, tryEdges, flips, sameTriples, endNumber, flipBy, flip}
 

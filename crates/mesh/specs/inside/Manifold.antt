@@ -7,12 +7,11 @@ use mathlib.Core.List.{List, [], _∷_, _++_, map}
 use lib.Dec.{eqb, ltb}
 use lib.ListN.{length, take, drop, getD}
 use Rattle.mesh.specs.declared.element.Pair.{Pair}
-use Rattle.mesh.specs.Words.{wordAt, flat}
+use Rattle.mesh.specs.Words.{wordAt, numbers, flat}
 use Rattle.mesh.specs.inside.Rows.{rows}
 use Rattle.mesh.specs.Complex.{mem}
 use Rattle.mesh.specs.Tests.{every}
 use Rattle.mesh.specs.Element.{pair}
-use Rattle.mesh.specs.Group.{numbers}
 use Rattle.mesh.specs.Manifold.{oneCycle, grow}
 
 -- ---- corners by number, for the contracts of private functions

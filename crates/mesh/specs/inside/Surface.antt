@@ -1,6 +1,6 @@
 -- What stands in an area on the way to a boundary: face rows, runs of equal keys, the single faces. For contracts of private functions and
 -- for proofs; definitions only.
-use Prim.Native.Nat.{ℕ, zero, suc, _+_, _-_, _*_, _/_, _%_, _≤_}
+use Prim.Native.Nat.{ℕ, _+_, _-_, _*_, _/_, _%_, _≤_}
 use mathlib.Core.Path.{_≡_}
 use mathlib.Core.Bool.{Bool, true, cond, _&&_}
 use mathlib.Core.List.{List, [], _∷_, _++_, map}
@@ -10,7 +10,7 @@ use Rattle.mesh.specs.declared.element.Tet.{Tet}
 use Rattle.mesh.specs.declared.element.Triple.{Triple}
 use Rattle.mesh.specs.declared.boundary.Outcome.{Outcome}
 use Rattle.mesh.specs.declared.boundary.Outcome.the-variants.{Refused}
-use Rattle.mesh.specs.Words.{wordAt, zeroWords, flat}
+use Rattle.mesh.specs.Words.{wordAt, zeroWords, numbers, flat}
 use Rattle.mesh.specs.Tests.{every}
 use Rattle.mesh.specs.inside.Rows.{rows, eqRow}
 use Rattle.mesh.specs.Complex.{Nodup}
@@ -68,11 +68,6 @@ faceAt s m = faceOf (tet (wordAt s (m / 4 * 4)) (wordAt s (m / 4 * 4 + 1)) (word
 -- the row of a face: its key and its number
 abbrev pub faceRow : Triple → ℕ → List ℕ
 faceRow f m = keyOf f .a ∷ keyOf f .b ∷ keyOf f .c ∷ m ∷ []
-
--- n numbers from i on
-unfoldable pub numbers : ℕ → ℕ → List ℕ
-numbers i zero = []
-numbers i (suc n) = i ∷ numbers (suc i) n
 
 -- the rows of all faces of n elements
 unfoldable pub faceRows : ℕ → List ℕ → List (List ℕ)

@@ -13,9 +13,8 @@ use Rattle.geometry.specs.declared.bounds.Options.{Options}
 use Rattle.geometry.specs.declared.field.Field.{Field}
 use Rattle.mesh.specs.declared.element.Tet.{Tet}
 use Rattle.mesh.specs.declared.boundary.Outcome.{Outcome}
-use Rattle.mesh.specs.Group.{numbers}
 use Rattle.mesh.specs.Tests.{every}
-use Rattle.mesh.specs.Words.{pointsOf}
+use Rattle.mesh.specs.Words.{pointsOf, numbers}
 use Rattle.mesh.specs.Element.{tets}
 use Rattle.mesh.specs.Surface.{triplesOf, answerOf, surfaceWords, callFits, Call, boundaryCall}
 use Rattle.mesh.proofs.Laws.Bools.{and-left, and-intro}

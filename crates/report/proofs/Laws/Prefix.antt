@@ -11,7 +11,7 @@ use lib.Seq.{getD-take}
 use borrow.Author.Tests.{lt-ltb, le-ltb, ltb-true, ltb-false, leb-true, eqb-true}
 use Rattle.mesh.proofs.Laws.Bools.{split}
 use Rattle.mesh.proofs.Laws.Intake.Chains.{neither-left, neither-right}
-use Rattle.mesh.specs.Group.{numbers}
+use Rattle.mesh.specs.Words.{numbers}
 use Rattle.mesh.specs.Tests.{every}
 use Rattle.report.specs.Format.{wordsABlock, bytesABlock, verticesABlock, elementsABlock, boundsPlace, cellsPlace, periodicPlace, passesPlace, countPlace, firstField, fieldPlaces, fieldSize, ballKind, mostVertices, mostElements}
 use Rattle.report.specs.Bytes.{wordIn, floatIn, pointFrom, sumOf, listed, firstOf}

@@ -6,17 +6,18 @@ use mathlib.Core.List.{List, [], _∷_, map}
 use Prim.Native.Nat.{ℕ, zero, suc, _+_, _*_, _/_, _%_, _≤_, _<_}
 use native.Mathlib.Omega.{arith}
 use lib.Dec.{ltb}
-use lib.ListN.{length, take, drop, getD}
+use lib.ListN.{take, drop, getD}
 use lib.Seq.{getD-take, getD-drop, drop-drop}
-use borrow.Author.Tests.{lt-ltb, ltb-true}
+use borrow.Author.Tests.{ltb-true}
 use Rattle.mesh.specs.declared.element.Tet.{Tet}
 use Rattle.mesh.specs.declared.element.Triple.{Triple}
-use Rattle.mesh.specs.Words.{wordAt}
+use Rattle.mesh.specs.Words.{wordAt, numbers}
 use Rattle.mesh.specs.Tests.{every}
 use Rattle.mesh.specs.Element.{tet, tets, faceOf}
 use Rattle.mesh.specs.Boundary.{allFaces}
-use Rattle.mesh.specs.inside.Surface.{faceAt, faceRow, numbers, faceRows}
-use Rattle.mesh.proofs.Laws.Bools.{and-intro, and-left, and-right}
+use Rattle.mesh.specs.inside.Surface.{faceAt, faceRow, faceRows}
+use Rattle.mesh.proofs.Laws.Bools.{and-left, and-right}
+use Rattle.mesh.proofs.Laws.NumbersFrom.{numbers-below}
 
 -- ---- maps
 
@@ -28,18 +29,6 @@ every-map h p (x ∷ l) = ap (λ (t : Bool). p (h x) && t) (every-map h p l)
 pub map-known : {A B : Type 0} (p : A → Bool) (g h : A → B) → ((x : A) → p x ≡ true → g x ≡ h x) → (l : List A) → every p l ≡ true → map g l ≡ map h l
 map-known p g h e [] k = refl
 map-known {A} {B} p g h e (x ∷ l) k = ap₂ (λ (u : B) (v : List B). u ∷ v) (e x (and-left (p x) (every p l) k)) (map-known p g h e l (and-right (p x) (every p l) k))
-
--- ---- numbers
-
-pub numbers-below : (i n m : ℕ) → i + n ≤ m → every (λ k. ltb k m) (numbers i n) ≡ true
-unfolding numbers
-numbers-below i zero m h = refl
-numbers-below i (suc n) m h = and-intro (ltb i m) (every (λ k. ltb k m) (numbers (suc i) n)) (lt-ltb i m (omega arith)) (numbers-below (suc i) n m (omega arith))
-
-pub length-numbers : (i n : ℕ) → length (numbers i n) ≡ n
-unfolding numbers
-length-numbers i zero = refl
-length-numbers i (suc n) = ap suc (length-numbers (suc i) n)
 
 -- ---- the face with a number
 
@@ -62,22 +51,21 @@ module _ (s : List ℕ) where
       let q : 4 * e + 4 ≡ 4 * suc e = omega arith in
       simp (getD-drop (4 * e) s, p, drop-drop 4 (4 * e) s, q)
 
-  numbers-from : (e n : ℕ) → numbers (4 * e) (4 * suc n) ≡ (4 * e + 0) ∷ (4 * e + 1) ∷ (4 * e + 2) ∷ (4 * e + 3) ∷ numbers (4 * suc e) (4 * n)
+  four-numbers : (e n : ℕ) → numbers (4 * e) (4 * suc n) ≡ (4 * e + 0) ∷ (4 * e + 1) ∷ (4 * e + 2) ∷ (4 * e + 3) ∷ numbers (4 * suc e) (4 * n)
   unfolding numbers
-  numbers-from e n =
+  four-numbers e n =
       let p : 4 * suc n ≡ suc (suc (suc (suc (4 * n)))) = omega arith in
       let a : 4 * e ≡ 4 * e + 0 = omega arith in
-      let b : suc (4 * e) ≡ 4 * e + 1 = omega arith in
-      let c : suc (suc (4 * e)) ≡ 4 * e + 2 = omega arith in
-      let d : suc (suc (suc (4 * e))) ≡ 4 * e + 3 = omega arith in
-      let f : suc (suc (suc (suc (4 * e)))) ≡ 4 * suc e = omega arith in
+      let c : 4 * e + 1 + 1 ≡ 4 * e + 2 = omega arith in
+      let d : 4 * e + 1 + 1 + 1 ≡ 4 * e + 3 = omega arith in
+      let f : 4 * e + 1 + 1 + 1 + 1 ≡ 4 * suc e = omega arith in
       ap (numbers (4 * e)) p ∙ cc
 
   faces-from : (e n : ℕ) → map (faceAt s) (numbers (4 * e) (4 * n)) ≡ allFaces (tets n (drop (4 * e) s))
   unfolding numbers tets allFaces
   faces-from e zero = refl
   faces-from e (suc n) =
-      ap (map (faceAt s)) (numbers-from e n)
+      ap (map (faceAt s)) (four-numbers e n)
       ∙ four (face-at e 0 (omega arith)) (face-at e 1 (omega arith)) (face-at e 2 (omega arith)) (face-at e 3 (omega arith)) (faces-from (suc e) n)
       ∙ sym (ap allFaces (tets-from e n))
     where

@@ -14,7 +14,8 @@ use Rattle.mesh.specs.inside.Sort.{headed, ordered}
 use Rattle.mesh.specs.inside.Rows.{leRow}
 use Rattle.mesh.specs.Element.{tets, keyOf}
 use Rattle.mesh.specs.Boundary.{sameTriple, leTriple, allFaces, firstNumber, boundaryNumber, singles, boundaryOf}
-use Rattle.mesh.specs.inside.Surface.{faceAt, faceRow, numbers, faceRows, badRun, lone, sameKey, faceIn, sameParity, faceArea, gathered}
+use Rattle.mesh.specs.Words.{numbers}
+use Rattle.mesh.specs.inside.Surface.{faceAt, faceRow, faceRows, badRun, lone, sameKey, faceIn, sameParity, faceArea, gathered}
 use Rattle.mesh.proofs.Laws.Bools.{and-intro, and-left, and-right}
 use Rattle.mesh.proofs.Laws.Sort.{ordered-sort, length-sort}
 use Rattle.mesh.proofs.Laws.Rows.{leRow-total}
@@ -22,7 +23,8 @@ use Rattle.mesh.proofs.Laws.Boundary.Order.{le-corners, eq-corners, sor
 use Rattle.mesh.proofs.Laws.Boundary.Same.{Same, sort-rearranges, same-map, same-count, sort-every}
 use Rattle.mesh.proofs.Laws.Boundary.Kinds.{bad-map, lone-map}
 use Rattle.mesh.proofs.Laws.Boundary.Runs.{alike, level, first-same, singles-same, scan-number, scan-lone}
-use Rattle.mesh.proofs.Laws.Boundary.Faces.{every-map, numbers-below, faces-are}
+use Rattle.mesh.proofs.Laws.NumbersFrom.{numbers-below}
+use Rattle.mesh.proofs.Laws.Boundary.Faces.{every-map, faces-are}
 
 -- ---- rows in order have keys in order
 

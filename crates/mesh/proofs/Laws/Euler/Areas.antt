@@ -4,7 +4,6 @@ use mathlib.Core.Path.{_≡_, refl, sym, ap, ap₂, _∙_}
 use mathlib.Core.Bool.{true, false}
 use mathlib.Core.List.{List, [], _∷_, _++_, map, map-append, append-assoc}
 use Prim.Native.Nat.{ℕ, zero, suc, _+_, _-_, _*_, _/_, _%_, _≤_, _<_, min, max}
-use native.Mathlib.Nat.{zero-add}
 use native.Mathlib.Omega.{arith}
 use lib.Dec.{leb, ltb}
 use lib.ListN.{length, take, drop, getD, length-drop}
@@ -14,14 +13,14 @@ use borrow.Rule.Slice.PartMut.{midOf, putMid}
 use Rattle.mesh.specs.declared.element.Pair.{Pair}
 use Rattle.mesh.specs.declared.element.Triple.{Triple}
 use Rattle.mesh.specs.declared.element.Tet.{Tet}
-use Rattle.mesh.specs.Words.{wordAt, zeroWords, flat}
+use Rattle.mesh.specs.Words.{wordAt, zeroWords, numbers, flat}
 use Rattle.mesh.specs.Sort.{unique}
 use Rattle.mesh.specs.inside.Rows.{rows, eqRow, fitRows, sortedArea, uniqueRows, uniqueArea}
 use Rattle.mesh.specs.Element.{pair, tets, faceOf, keyOf, cornersOf, verticesOf}
 use Rattle.mesh.specs.inside.Intake.{tetAt}
-use Rattle.mesh.specs.Group.{numbers}
 use Rattle.mesh.specs.inside.Manifold.{filled, KeptBelow}
 use Rattle.mesh.proofs.Laws.Bools.{and-intro, and-left, and-right}
+use Rattle.mesh.proofs.Laws.NumbersFrom.{numbers-split}
 use Rattle.mesh.proofs.Laws.Parts.{paste-part, tail-mid, tail-put}
 use Rattle.mesh.proofs.Laws.Rows.{rows-words}
 use Rattle.mesh.proofs.Laws.Keeping.{unique-is, length-unique-area}
@@ -58,14 +57,6 @@ tets-flat [] x = refl
 tets-flat (t ∷ ts) x = ap (λ (l : List Tet). t ∷ l) (tets-flat ts x)
 
 -- ---- rows by number
-
-pub numbers-split : (k a b : ℕ) → numbers k (a + b) ≡ numbers k a ++ numbers (k + a) b
-unfolding numbers
-numbers-split k zero b = let e : k ≡ k + 0 = omega arith in rw zero-add (ap (λ (u : ℕ). numbers u b) e)
-numbers-split k (suc a) b =
-    let e : suc a + b ≡ suc (a + b) = omega arith in
-    let f : k + 1 + a ≡ k + suc a = omega arith in
-    ap (numbers k) e ∙ ap (λ (l : List ℕ). k ∷ l) (numbers-split (k + 1) a b ∙ ap (λ (u : ℕ). numbers (k + 1) a ++ numbers u b) f)
 
 tets-from : (s : List ℕ) (i k : ℕ) → tets (suc k) (drop (4 * i) s) ≡ tetAt s i ∷ tets k (drop (4 * suc i) s)
 unfolding tets tetAt

@@ -13,11 +13,11 @@ use Rattle.geometry.specs.declared.point.Point.{Point}
 use Rattle.geometry.specs.declared.bounds.Options.{Options}
 use Rattle.geometry.specs.declared.bounds.Ranks.{Ranks}
 use Rattle.geometry.specs.Rank.{rank}
-use Rattle.mesh.specs.Words.{pointAt, zeroPoint}
+use Rattle.mesh.specs.Words.{pointAt, zeroPoint, numbers}
 use Rattle.mesh.specs.Sort.{sort, unique}
 use Rattle.mesh.specs.inside.Rows.{leRow, eqRow}
 use Rattle.mesh.specs.Complex.{keep}
-use Rattle.mesh.specs.Group.{numbers, sameRanks, leRanks, rankOf, ofRank, groupOf, groups}
+use Rattle.mesh.specs.Group.{sameRanks, leRanks, rankOf, ofRank, groupOf, groups}
 use Rattle.mesh.specs.inside.Group.{runs, sameFirst, rankWords, groupRow, vertexIn, groupRows}
 use Rattle.mesh.proofs.Laws.Sort.{ordered-sort}
 use Rattle.mesh.proofs.Laws.Rows.{leRow-total, leRow-take, eqRow-sound}

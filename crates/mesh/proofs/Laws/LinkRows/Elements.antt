@@ -16,7 +16,7 @@ use Rattle.mesh.specs.Complex.{mem, Nodup, Sub}
 use Rattle.mesh.specs.Tests.{every, nodup}
 use Rattle.mesh.specs.Element.{verticesOf, cornersOf, tets}
 use Rattle.mesh.specs.Link.{interiorOk, subsets}
-use Rattle.mesh.specs.Group.{numbers}
+use Rattle.mesh.specs.Words.{numbers}
 use Rattle.mesh.specs.inside.Group.{runs, sameFirst}
 use Rattle.mesh.specs.inside.Intake.{tetAt}
 use Rattle.mesh.specs.inside.Euler.{spread}

@@ -10,10 +10,10 @@ use lib.Seq.{paste, length-take-le, take-take, drop-drop, drop-at}
 use Rattle.mesh.specs.declared.element.Triple.{Triple}
 use Rattle.mesh.specs.Sort.{sort}
 use Rattle.mesh.specs.inside.Rows.{rows, leRow, eqRow, sortedArea}
-use Rattle.mesh.specs.Words.{flat}
+use Rattle.mesh.specs.Words.{numbers, flat}
 use Rattle.mesh.specs.Element.{tets, keyOf, cornersOf}
 use Rattle.mesh.specs.Boundary.{allFaces}
-use Rattle.mesh.specs.inside.Surface.{faceAt, faceRow, numbers, faceRows}
+use Rattle.mesh.specs.inside.Surface.{faceAt, faceRow, faceRows}
 use Rattle.mesh.specs.inside.Manifold.{filled, KeptBelow}
 use Rattle.mesh.specs.inside.Faces.{TriedFaces, SortedKeys, TriedKeys}
 use Rattle.mesh.specs.inside.Euler.{spread, triangleRows, triangleRowAt}

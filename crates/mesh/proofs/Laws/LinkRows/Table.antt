@@ -11,14 +11,13 @@ use lib.ListN.{length, take, drop, getD, length-append}
 use lib.Seq.{paste, getD-drop}
 use Rattle.mesh.specs.declared.element.Tet.{Tet}
 use Rattle.mesh.specs.declared.element.Triple.{Triple}
-use Rattle.mesh.specs.Words.{wordAt}
+use Rattle.mesh.specs.Words.{wordAt, numbers}
 use Rattle.mesh.specs.Sort.{sort}
 use Rattle.mesh.specs.inside.Rows.{rows, leRow, sortedArea}
 use Rattle.mesh.specs.Complex.{keep}
 use Rattle.mesh.specs.Tests.{every, nodup}
 use Rattle.mesh.specs.Element.{tets, cornersOf, verticesOf}
 use Rattle.mesh.specs.Link.{interiorOk}
-use Rattle.mesh.specs.Group.{numbers}
 use Rattle.mesh.specs.inside.Group.{runs, sameFirst}
 use Rattle.mesh.specs.inside.Manifold.{KeptBelow}
 use Rattle.mesh.specs.inside.Intake.{tetAt}
@@ -29,12 +28,12 @@ use Rattle.mesh.specs.inside.LinkTable.{toldBoth, bothFace, noneFace, bo
 use Rattle.mesh.proofs.Laws.Bools.{split, and-left, and-right}
 use Rattle.mesh.proofs.Laws.Rows.{Shape, none, more}
 use Rattle.mesh.proofs.Laws.Boundary.Same.{length-keep, length-map}
-use Rattle.mesh.proofs.Laws.Manifold.Fill.{length-numbers}
+use Rattle.mesh.proofs.Laws.NumbersFrom.{length-numbers, numbers-split}
 use Rattle.mesh.proofs.Laws.Manifold.Growth.{kept-both}
 use Rattle.mesh.proofs.Laws.Manifold.Steps.{kept-less, sort-kept, sort-from-rows}
 use Rattle.mesh.proofs.Laws.List.Stack.{stack-start, stack-kept, stack-rest, stack-turn}
 use Rattle.mesh.proofs.Laws.List.Push.{keep-append, push-kept, push-rows}
-use Rattle.mesh.proofs.Laws.Euler.Areas.{tet-kept, tets-kept, numbers-split}
+use Rattle.mesh.proofs.Laws.Euler.Areas.{tet-kept, tets-kept}
 use Rattle.mesh.proofs.Laws.LinkRows.Elements.{fours, element-rows}
 use Rattle.mesh.proofs.Laws.LinkRows.Fewer.{fewer-answer}
 

@@ -9,7 +9,7 @@ use borrow.Author.Tests.{le-leb, lt-leb, leb-true, eq-eqb, ne-eqb}
 use lib.Dec.{leb}
 use lib.ListN.{length, take, drop, getD}
 use Rattle.mesh.specs.declared.element.Tet.{Tet}
-use Rattle.mesh.specs.Words.{zeroWords}
+use Rattle.mesh.specs.Words.{zeroWords, numbers}
 use Rattle.mesh.specs.Sort.{sort}
 use Rattle.mesh.specs.inside.Rows.{rows, leRow, sortedArea}
 use Rattle.mesh.specs.Complex.{sub}
@@ -17,7 +17,6 @@ use Rattle.mesh.specs.Tests.{every, nodup}
 use Rattle.mesh.specs.Element.{verticesOf, tets}
 use Rattle.mesh.specs.Link.{interiorOk, boundaryAbout, boundaryOk}
 use Rattle.mesh.specs.Feature.{bitsOf, shared, featureOk, linkOk, linkFits, linkOkIn}
-use Rattle.mesh.specs.Group.{numbers}
 use Rattle.mesh.specs.inside.Group.{runs, sameFirst}
 use Rattle.mesh.specs.Manifold.{Tested}
 use Rattle.mesh.specs.inside.Manifold.{filled, KeptBelow}

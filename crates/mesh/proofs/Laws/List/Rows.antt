@@ -9,12 +9,11 @@ use lib.ListN.{length, take, drop, length-append, length-drop}
 use lib.Seq.{length-take-le, take-at, drop-at, drop-drop, take-add}
 use borrow.Author.Tests.{le-leb, lt-leb, lt-ltb, leb-true}
 use Rattle.mesh.specs.declared.element.Tet.{Tet}
-use Rattle.mesh.specs.Words.{zeroWords, flat}
+use Rattle.mesh.specs.Words.{zeroWords, numbers, flat}
 use Rattle.mesh.specs.Sort.{sort, unique}
 use Rattle.mesh.specs.inside.Rows.{rows, leRow, eqRow, fitRows, sortedArea, uniqueRows, uniqueArea}
 use Rattle.mesh.specs.Complex.{keep}
 use Rattle.mesh.specs.Element.{tets, verticesOf}
-use Rattle.mesh.specs.Group.{numbers}
 use Rattle.mesh.specs.inside.Manifold.{filled, KeptBelow}
 use Rattle.mesh.specs.inside.Euler.{spread}
 use Rattle.mesh.proofs.Laws.Bools.{and-intro, and-left, and-right}

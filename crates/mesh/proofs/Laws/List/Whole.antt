@@ -7,11 +7,10 @@ use native.Mathlib.Omega.{arith}
 use lib.ListN.{length, take, drop}
 use Rattle.geometry.specs.declared.point.Point.{Point}
 use Rattle.mesh.specs.declared.element.Tet.{Tet}
-use Rattle.mesh.specs.Words.{zeroWords, flat}
+use Rattle.mesh.specs.Words.{zeroWords, numbers, flat}
 use Rattle.mesh.specs.inside.Rows.{rows}
 use Rattle.mesh.specs.Complex.{keep}
 use Rattle.mesh.specs.Element.{tets, verticesOf}
-use Rattle.mesh.specs.Group.{numbers}
 use Rattle.mesh.specs.inside.Manifold.{filled, KeptBelow}
 use Rattle.mesh.specs.inside.Euler.{spread, edgeRows, triangleRows, edgeRowAt, triangleRowAt}
 use Rattle.mesh.proofs.Laws.Euler.Areas.{edge-rows, triangle-rows}

@@ -12,7 +12,7 @@ use lib.Seq.{getD-take, getD-drop, drop-drop, length-take-le}
 use borrow.Author.Tests.{eq-eqb, ne-eqb, eqb-true, lt-ltb, le-ltb}
 use Rattle.mesh.specs.declared.element.Pair.{Pair}
 use Rattle.mesh.specs.declared.element.Triple.{Triple}
-use Rattle.mesh.specs.Words.{wordAt}
+use Rattle.mesh.specs.Words.{wordAt, numbers}
 use Rattle.mesh.specs.Sort.{sort}
 use Rattle.mesh.specs.inside.Rows.{leRow, eqRow}
 use Rattle.mesh.specs.Complex.{keep}
@@ -20,8 +20,8 @@ use Rattle.mesh.specs.Tests.{every}
 use Rattle.mesh.specs.Sets.{times}
 use Rattle.mesh.specs.Element.{triple, samePair}
 use Rattle.mesh.specs.Manifold.{edgesOf, surfaceEdges, edgesTwice, surfaceLink, oneCycle, surfaceVertices, triples}
-use Rattle.mesh.specs.Group.{numbers}
 use Rattle.mesh.proofs.Laws.Bools.{split, clash, and-intro, and-left, and-right}
+use Rattle.mesh.proofs.Laws.NumbersFrom.{every-numbers}
 use Rattle.mesh.proofs.Laws.Rows.{eqRow-sound}
 use Rattle.mesh.proofs.Laws.Link.Members.{keep-same}
 use Rattle.mesh.specs.inside.Group.{runs, sameFirst}
@@ -229,11 +229,6 @@ pub every-getD : {A : Type 0} (p : A → Bool) (l : List A) (i : ℕ) (d : A) �
 every-getD p [] i d h k = absurd (not-suc-le-zero k)
 every-getD p (x ∷ l) zero d h k = and-left (p x) (every p l) h
 every-getD p (x ∷ l) (suc i) d h k = every-getD p l i d (and-right (p x) (every p l) h) (le-of-suc-le-suc k)
-
-pub every-numbers : (p : ℕ → Bool) (k n : ℕ) → ((j : ℕ) → k ≤ j → j < k + n → p j ≡ true) → every p (numbers k n) ≡ true
-unfolding numbers
-every-numbers p k zero h = refl
-every-numbers p k (suc n) h = and-intro (p k) (every p (numbers (k + 1) n)) (h k (omega arith) (omega arith)) (every-numbers p (k + 1) n (λ j a b. h j (omega arith) (omega arith)))
 
 -- the other vertices of every link row
 pub links-below : (s : List ℕ) (n b : ℕ) → 3 * n ≤ length s → every (λ x. ltb x b) (take (3 * n) s) ≡ true

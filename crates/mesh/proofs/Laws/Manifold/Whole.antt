@@ -9,12 +9,11 @@ use lib.ListN.{length, take, drop}
 use lib.Seq.{getD-drop}
 use borrow.Author.Tests.{le-leb, lt-leb, leb-true, lt-ltb, ltb-true}
 use Rattle.mesh.specs.declared.element.Triple.{Triple}
-use Rattle.mesh.specs.Words.{wordAt, zeroWords, flat}
+use Rattle.mesh.specs.Words.{wordAt, zeroWords, numbers, flat}
 use Rattle.mesh.specs.Sort.{sort}
 use Rattle.mesh.specs.inside.Rows.{rows, leRow, sortedArea}
 use Rattle.mesh.specs.Tests.{every}
 use Rattle.mesh.specs.Element.{cornersOf}
-use Rattle.mesh.specs.Group.{numbers}
 use Rattle.mesh.specs.inside.Group.{runs, sameFirst}
 use Rattle.mesh.specs.Manifold.{edgesTwice, surfaceLink, oneCycle, surfaceVertices, nonmanifold, triples, surfaceFits, Tested, nonmanifoldIn}
 use Rattle.mesh.specs.inside.Manifold.{edgeRow, linkRow, filled, two, cycle, linkPair, pairBelow, KeptBelow, LinkArea}

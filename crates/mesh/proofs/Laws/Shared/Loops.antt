@@ -11,7 +11,7 @@ use Rattle.mesh.specs.declared.element.Triple.{Triple}
 use Rattle.mesh.specs.declared.element.Tet.{Tet}
 use Rattle.mesh.specs.Element.{tet, tets, facesOf, faceOf, keyOf, cornersOf}
 use Rattle.mesh.specs.inside.Intake.{tetAt}
-use Rattle.mesh.specs.Group.{numbers}
+use Rattle.mesh.specs.Words.{numbers}
 use Rattle.mesh.specs.inside.Manifold.{filled, KeptBelow}
 use Rattle.mesh.specs.inside.List.{stacked, Pushed}
 use Rattle.mesh.proofs.Laws.Rows.{Shape, none, more}

@@ -14,7 +14,7 @@ use Rattle.mesh.specs.Complex.{sub, keep, Nodup}
 use Rattle.mesh.specs.inside.Complex.{star}
 use Rattle.mesh.specs.Element.{facesOf, keyOf, cornersOf, verticesOf}
 use Rattle.mesh.specs.Boundary.{sameTriple, allFaces}
-use Rattle.mesh.specs.Group.{numbers}
+use Rattle.mesh.specs.Words.{numbers}
 use Rattle.mesh.proofs.Laws.Bools.{split}
 use Rattle.mesh.proofs.Laws.Complex.Sums.{bit}
 use Rattle.mesh.proofs.Laws.Link.Simplices.{rising}

@@ -15,7 +15,7 @@ use Rattle.mesh.specs.declared.element.Tet.{Tet}
 use Rattle.mesh.specs.Complex.{mem, keep, Nodup}
 use Rattle.mesh.specs.Element.{verticesOf, cornersOf, hasAll}
 use Rattle.mesh.specs.Link.{without}
-use Rattle.mesh.specs.Group.{numbers}
+use Rattle.mesh.specs.Words.{numbers}
 use Rattle.mesh.specs.Intake.{wellNumbered}
 use Rattle.mesh.specs.Measure.{Measure}
 use Rattle.mesh.proofs.Laws.Complex.Sets.{split, out, mem-here}

@@ -14,7 +14,7 @@ use Rattle.mesh.specs.declared.star.Index.{Index}
 use Rattle.mesh.specs.Complex.{mem, keep}
 use Rattle.mesh.specs.Tests.{every, any}
 use Rattle.mesh.specs.Element.{verticesOf, hasAll}
-use Rattle.mesh.specs.Group.{numbers}
+use Rattle.mesh.specs.Words.{numbers}
 use Rattle.mesh.specs.inside.Star.{goneTet}
 use Rattle.mesh.specs.inside.About as About
 use Rattle.mesh.specs.inside.With.{anyWith, withList, withIn}

@@ -14,7 +14,7 @@ use Rattle.mesh.specs.Complex.{mem}
 use Rattle.mesh.specs.Intake.{wellNumbered}
 use Rattle.mesh.specs.inside.List.{gone}
 use Rattle.mesh.specs.inside.Star.{goneTet}
-use Rattle.mesh.specs.Group.{numbers}
+use Rattle.mesh.specs.Words.{numbers}
 use Rattle.mesh.specs.inside.About as About
 use Rattle.mesh.proofs.Laws.Parts.{side}
 use Rattle.mesh.proofs.Laws.Complex.Sets.{split, and-snd, clash, keep-mem}

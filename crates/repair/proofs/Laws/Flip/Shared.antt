@@ -18,7 +18,7 @@ use Rattle.mesh.specs.Complex.{keep}
 use Rattle.mesh.specs.Tests.{every}
 use Rattle.mesh.specs.Element.{tet, cornersOf, keyOf}
 use Rattle.mesh.specs.Boundary.{sameTriple, leTriple, allFaces}
-use Rattle.mesh.specs.Group.{numbers}
+use Rattle.mesh.specs.Words.{numbers}
 use Rattle.mesh.specs.inside.Shared.{owners, hasTwo, badKeys, sharedFaces}
 use Rattle.mesh.specs.Measure.{Measure, measure}
 use Rattle.mesh.proofs.Laws.Complex.Sets.{split, and-fst, and-snd}

@@ -13,7 +13,7 @@ use lib.Seq.{set-append-seam, append-snoc}
 use Rattle.mesh.specs.declared.element.Tet.{Tet}
 use Rattle.mesh.specs.Complex.{within, keep}
 use Rattle.mesh.specs.Element.{verticesOf, hasAll}
-use Rattle.mesh.specs.Group.{numbers}
+use Rattle.mesh.specs.Words.{numbers}
 use Rattle.mesh.proofs.Laws.Complex.Sets.{split}
 use Rattle.mesh.proofs.Laws.Boundary.Same.{length-map}
 use Rattle.mesh.specs.Tests.{any}

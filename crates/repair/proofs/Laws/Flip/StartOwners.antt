@@ -13,7 +13,7 @@ use Rattle.mesh.specs.Complex.{keep, Nodup}
 use Rattle.mesh.specs.inside.Complex.{Proper}
 use Rattle.mesh.specs.Element.{verticesOf, hasAll}
 use Rattle.mesh.specs.Link.{without}
-use Rattle.mesh.specs.Group.{numbers}
+use Rattle.mesh.specs.Words.{numbers}
 use Rattle.mesh.proofs.Laws.Complex.Sets.{split}
 use Rattle.mesh.proofs.Laws.Link.Members.{kept-elim, kept-intro}
 use Rattle.mesh.proofs.Laws.Link.Closed.{AtMostTwo}
@@ -22,7 +22,7 @@ use Rattle.repair.specs.Flip.{slotHas, live, numbersWith, elementsAt, be
 use Rattle.repair.proofs.Laws.Flip.Slots.{none-some, Aged, at-live, length-with}
 use Rattle.repair.proofs.Laws.Flip.Replace.{elementsOf}
 use Rattle.repair.proofs.Laws.Flip.Owners.{length-without, star-owners, element-of}
-use Rattle.mesh.proofs.Laws.Euler.Areas.{numbers-split}
+use Rattle.mesh.proofs.Laws.NumbersFrom.{numbers-split}
 
 -- ---- lists
 

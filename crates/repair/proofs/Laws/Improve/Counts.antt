@@ -18,7 +18,8 @@ use Rattle.mesh.specs.Complex.{mem, Nodup}
 use Rattle.mesh.specs.inside.Complex.{Proper}
 use Rattle.mesh.specs.Tests.{every, nodup}
 use Rattle.mesh.specs.Element.{verticesOf}
-use Rattle.mesh.specs.Group.{numbers, sameRanks, rankOf, groupOf}
+use Rattle.mesh.specs.Words.{numbers}
+use Rattle.mesh.specs.Group.{sameRanks, rankOf, groupOf}
 use Rattle.mesh.specs.Measure.{Measure, measure}
 use Rattle.mesh.proofs.Laws.Complex.Sets.{split, nope, clash, or-cases, and-fst, and-snd, mem-here, mem-there, mem-cases, mem-nil, keep-mem, keep-nodup}
 use Rattle.repair.specs.Mesh.{Mesh, made, has}
@@ -28,20 +29,9 @@ use Rattle.repair.proofs.Laws.Improve.Edges.{joins, listed-join}
 use Rattle.repair.proofs.Laws.Improve.Passes.{Tried, Joined, joined, joined-back, tryEdge-keeps, tryEdges-always, rounds-always}
 use Rattle.repair.proofs.Laws.Improve.Keeps.{Sound, last, last-kept, improve-made}
 use Rattle.mesh.proofs.Laws.Star.Chains.{mem-either}
-use Rattle.mesh.proofs.Laws.Manifold.Fill.{numbers-mem}
+use Rattle.mesh.proofs.Laws.NumbersFrom.{numbers-mem, numbers-nodup}
 
 -- ---- lists of vertices
-
-numbers-from : (k n x : ℕ) → mem x (numbers k n) ≡ true → k ≤ x
-unfolding numbers
-numbers-from k zero x h = absurd (mem-nil x h)
-numbers-from k (suc n) x h =
-    elim (mem-cases x k (numbers (k + 1) n) h) [ inl e ↦ le-of-eq (sym e) | inr r ↦ let l : k + 1 ≤ x = numbers-from (k + 1) n x r in omega arith ]
-
-numbers-nodup : (k n : ℕ) → Nodup (numbers k n)
-unfolding numbers
-numbers-nodup k zero = tt
-numbers-nodup k (suc n) = (nope (λ h. let l : k + 1 ≤ k = numbers-from (k + 1) n k h in omega arith), numbers-nodup (k + 1) n)
 
 append-nodup : (xs ys : List ℕ) → Nodup xs → Nodup ys → ((x : ℕ) → mem x xs ≡ true → mem x ys ≡ false) → Nodup (xs ++ ys)
 append-nodup [] ys d e h = e

@@ -15,7 +15,8 @@ use Rattle.geometry.specs.declared.bounds.Ranks.{Ranks}
 use Rattle.mesh.specs.Complex.{mem, keep}
 use Rattle.mesh.specs.Tests.{every}
 use Rattle.mesh.specs.Element.{pair}
-use Rattle.mesh.specs.Group.{numbers, sameRanks, rankOf, groupOf}
+use Rattle.mesh.specs.Words.{numbers}
+use Rattle.mesh.specs.Group.{sameRanks, rankOf, groupOf}
 use Rattle.mesh.specs.declared.element.Pair.{Pair}
 use Rattle.mesh.specs.Measure.{Measure}
 use Rattle.mesh.proofs.Laws.Complex.Sets.{split, nope, and-fst, and-snd}

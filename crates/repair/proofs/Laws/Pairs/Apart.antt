@@ -16,7 +16,8 @@ use Rattle.mesh.specs.declared.star.Index.{Index}
 use Rattle.mesh.specs.Complex.{mem, keep, Nodup}
 use Rattle.mesh.specs.Tests.{nodup}
 use Rattle.mesh.specs.Element.{pair, samePair}
-use Rattle.mesh.specs.Group.{numbers, sameRanks, rankOf, groupOf}
+use Rattle.mesh.specs.Words.{numbers}
+use Rattle.mesh.specs.Group.{sameRanks, rankOf, groupOf}
 use Rattle.mesh.proofs.Laws.Complex.Sets.{split, clash, nope, and-fst, and-snd, mem-here, mem-there, mem-cases, mem-nil, keep-mem}
 use Rattle.mesh.proofs.Laws.Link.Members.{Decides, among-elim}
 use Rattle.mesh.proofs.Laws.Link.Simplices.{every-mem}

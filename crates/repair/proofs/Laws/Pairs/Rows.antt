@@ -6,20 +6,20 @@ use mathlib.Core.List.{List, [], _∷_, _++_, map, append-nil}
 use Prim.Native.Nat.{ℕ, zero, suc, _+_, _-_, _*_, _≤_, _<_}
 use native.Mathlib.Nat.{not-suc-le-zero}
 use native.Mathlib.Omega.{arith}
-use borrow.Author.Tests.{le-leb, lt-ltb}
+use borrow.Author.Tests.{le-leb}
 use lib.Dec.{ltb}
 use lib.ListN.{length, take, drop, getD, length-drop, length-map}
 use lib.Seq.{drop-drop, take-take, getD-take, getD-drop}
 use Rattle.geometry.specs.declared.point.Point.{Point}
 use Rattle.geometry.specs.declared.bounds.Options.{Options}
 use Rattle.mesh.specs.declared.star.Index.{Index}
-use Rattle.mesh.specs.Words.{wordAt, flat}
+use Rattle.mesh.specs.Words.{wordAt, numbers, flat}
 use Rattle.mesh.specs.Sort.{sort, unique, uniqueAfter}
 use Rattle.mesh.specs.inside.Sort.{ordered, headed}
 use Rattle.mesh.specs.inside.Rows.{rows, leRow, eqRow, fitRows, run, runLength, reaches, firstAtLeast}
 use Rattle.mesh.specs.Complex.{mem, keep}
 use Rattle.mesh.specs.Tests.{every}
-use Rattle.mesh.specs.Group.{numbers, sameRanks, rankOf, groupOf}
+use Rattle.mesh.specs.Group.{sameRanks, rankOf, groupOf}
 use Rattle.mesh.specs.inside.Group.{runs, sameFirst, rankWords, groupRow, vertexIn, groupRows}
 use Rattle.mesh.proofs.Laws.Bools.{and-left}
 use Rattle.mesh.proofs.Laws.Complex.Sets.{split, clash, nope, keep-mem}
@@ -28,7 +28,8 @@ use Rattle.mesh.proofs.Laws.SortedRows.{ordered-sort-rows}
 use Rattle.mesh.proofs.Laws.Rows.{leRow-trans, leRow-anti, leRow-take, leRow-refl, eqRow-refl, eqRow-sound, shape-sort, rows-flat, rows-take, rows-at, length-rows, take-rows, drop-rows}
 use Rattle.mesh.proofs.Laws.Runs.{length-is}
 use Rattle.mesh.proofs.Laws.Halving.{First, first-at-least}
-use Rattle.mesh.proofs.Laws.Manifold.Fill.{shape-numbered, numbers-mem}
+use Rattle.mesh.proofs.Laws.NumbersFrom.{numbers-mem, numbers-below}
+use Rattle.mesh.proofs.Laws.Manifold.Fill.{shape-numbered}
 use Rattle.mesh.proofs.Laws.Manifold.RowRuns.{run-turn, sorted-runs}
 use Rattle.mesh.proofs.Laws.Group.Runs.{run-of-vertex}
 use Rattle.repair.specs.declared.improve.partners.Run.{Run}
@@ -96,15 +97,9 @@ members-rows i (suc n) w =
     ap₂ (λ (u : ℕ) (l : List ℕ). u ∷ l) (sym (getD-take 7 (drop (i * 7) w) 6 0 (omega arith) ∙ getD-drop (i * 7) w 6 0 ∙ ap (wordAt w) p))
     (members-rows (i + 1) n w ∙ ap (λ (l : List ℕ). map vertexIn (rows 7 n l)) (sym (drop-drop 7 (i * 7) w ∙ ap (λ (u : ℕ). drop u w) q)))
 
--- numbers below a bound
-below-numbers : (k n m : ℕ) → k + n ≤ m → every (λ v. ltb v m) (numbers k n) ≡ true
-unfolding numbers
-below-numbers k zero m h = refl
-below-numbers k (suc n) m h = rw (lt-ltb k m (omega arith)) (below-numbers (k + 1) n m (omega arith))
-
 -- a group's members are vertices
 pub below-group : (o : Options) (ps : List Point) (v : ℕ) → every (λ u. ltb u (length ps)) (groupOf o ps v) ≡ true
-below-group o ps v = every-keep (λ u. ltb u (length ps)) (λ u. sameRanks (rankOf o ps u) (rankOf o ps v)) (numbers 0 (length ps)) (below-numbers 0 (length ps) (length ps) (omega arith))
+below-group o ps v = every-keep (λ u. ltb u (length ps)) (λ u. sameRanks (rankOf o ps u) (rankOf o ps v)) (numbers 0 (length ps)) (numbers-below 0 (length ps) (length ps) (omega arith))
 
 -- a vertex is in its group
 pub group-self : (o : Options) (ps : List Point) (v : ℕ) → v < length ps → mem v (groupOf o ps v) ≡ true

@@ -15,12 +15,12 @@ use Rattle.geometry.specs.declared.bounds.Ranks.{Ranks}
 use Rattle.geometry.specs.declared.field.Field.{Field}
 use Rattle.geometry.specs.Rank.{rank}
 use Rattle.mesh.specs.declared.star.Index.{Index}
-use Rattle.mesh.specs.Words.{pointsOf}
+use Rattle.mesh.specs.Words.{pointsOf, numbers}
 use Rattle.mesh.specs.Sort.{sort, unique}
 use Rattle.mesh.specs.inside.Rows.{rows, run, runLength, fitRows}
 use Rattle.mesh.specs.Complex.{keep, Nodup}
 use Rattle.mesh.specs.Tests.{under}
-use Rattle.mesh.specs.Group.{numbers, sameRanks, leRanks, ofRank, groups}
+use Rattle.mesh.specs.Group.{sameRanks, leRanks, ofRank, groups}
 use Rattle.mesh.specs.inside.Group.{runs, sameFirst, vertexIn}
 use Rattle.mesh.proofs.Laws.Complex.Sets.{split}
 use Rattle.mesh.proofs.Laws.Rows.{length-rows, drop-rows, take-rows}

@@ -13,12 +13,12 @@ use Rattle.mesh.specs.inside.Sort.{before, headed, ordered}
 use Rattle.mesh.specs.Complex.{mem, keep}
 use Rattle.mesh.specs.Tests.{every, under, nodup, any}
 use Rattle.mesh.specs.Element.{verticesOf}
-use Rattle.mesh.specs.Group.{numbers}
+use Rattle.mesh.specs.Words.{numbers}
 use Rattle.mesh.specs.Intake.{wellNumbered}
 use Rattle.mesh.specs.inside.Star.{butFor, othersOf, neighboursOf}
 use Rattle.mesh.proofs.Laws.Complex.Sets.{split, clash, and-fst, and-snd, mem-cases, mem-nil, keep-mem}
 use Rattle.mesh.proofs.Laws.Star.Distinct.{distinct-is}
-use Rattle.mesh.proofs.Laws.Manifold.Fill.{numbers-mem}
+use Rattle.mesh.proofs.Laws.NumbersFrom.{numbers-mem}
 use Rattle.repair.specs.Mesh.{has}
 use Rattle.repair.specs.Smooth.{neighbours}
 

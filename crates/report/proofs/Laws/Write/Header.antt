@@ -23,7 +23,7 @@ use Rattle.report.specs.Write.{totalOf, checkOf, closed, blockFront, bou
 use Rattle.report.proofs.Laws.Write.Words.{word-back, listed-at}
 use Rattle.report.proofs.Laws.Write.Sizes.{field-length, place-length, header-length, block-length}
 use Rattle.report.proofs.Laws.Write.Holds.{Holds, holds-left, holds-right, holds-row, word-at, float-at}
-use Rattle.mesh.proofs.Laws.Manifold.Corners.{every-numbers}
+use Rattle.mesh.proofs.Laws.NumbersFrom.{every-numbers}
 
 -- ---- a field
 

@@ -3,7 +3,7 @@ use mathlib.Core.Path.{_≡_, ap}
 use Prim.Native.Nat.{ℕ, _-_, _≤_}
 use native.Mathlib.Omega.{arith}
 use borrow.Author.Tests.{le-leb, lt-leb}
-use Rattle.mesh.specs.Group.{numbers}
+use Rattle.mesh.specs.Words.{numbers}
 use Rattle.mesh.specs.Tests.{every}
 use Rattle.report.specs.Block.{kindAt}
 use Rattle.report.proofs.Laws.Kinds.{known, every-turn, every-fail, every-end, kinds-over, kinds-unknown, kinds-known}
