@@ -2,6 +2,7 @@
 pub mod Bools
 pub mod Numbers
 pub mod NumbersFrom
+pub mod Edge
 pub mod Parts
 pub mod Sort
 pub mod Unique

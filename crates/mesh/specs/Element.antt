@@ -1,6 +1,6 @@
--- Elements, their faces, and a face's key and parity (document 01, "Runs of passes"; `tet_faces`, `face_key` and `face_parity` of
+-- Elements, their edges and faces, and a face's key and parity (document 01, "Runs of passes"; `tet_faces`, `face_key` and `face_parity` of
 -- lib.rs). Definitions only.
-use Prim.Native.Nat.{ℕ, zero, suc, _+_, _*_, _%_}
+use Prim.Native.Nat.{ℕ, zero, suc, _+_, _*_, _%_, min, max}
 use mathlib.Core.Bool.{Bool, true, false, cond, _&&_}
 use mathlib.Core.List.{List, [], _∷_, _++_}
 use lib.Dec.{ltb, leb, eqb}
@@ -59,6 +59,20 @@ verticesOf t = t .a ∷ t .b ∷ t .c ∷ t .d ∷ []
 -- the vertices of a face as a list
 abbrev pub cornersOf : Triple → List ℕ
 cornersOf f = f .a ∷ f .b ∷ f .c ∷ []
+
+-- the edge u v, its smaller vertex first
+abbrev pub edge : ℕ → ℕ → Pair
+edge u v = pair (min u v) (max u v)
+
+-- the six edges of an element
+abbrev pub edgesOf : Tet → List Pair
+edgesOf t =
+    edge (t .a) (t .b) ∷ edge (t .a) (t .c) ∷ edge (t .a) (t .d) ∷ edge (t .b) (t .c) ∷ edge (t .b) (t .d) ∷ edge (t .c) (t .d) ∷ []
+
+-- the edges of all elements
+unfoldable pub allEdges : List Tet → List Pair
+allEdges [] = []
+allEdges (t ∷ ts) = edgesOf t ++ allEdges ts
 
 -- the same two numbers in the same places
 abbrev pub samePair : Pair → Pair → Bool

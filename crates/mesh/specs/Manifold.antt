@@ -1,6 +1,6 @@
 -- Whether a surface has a nonmanifold vertex (document 01, number 22; `nonmanifold_vertices` of implicit.rs, on values): an edge that is
 -- not on exactly two triples, or a vertex whose link is not one cycle. Definitions only.
-use Prim.Native.Nat.{ℕ, zero, suc, _-_, _*_, min, max}
+use Prim.Native.Nat.{ℕ, zero, suc, _-_, _*_}
 use mathlib.Core.Bool.{Bool, true, not, cond, _&&_}
 use mathlib.Core.List.{List, [], _∷_, _++_}
 use lib.Dec.{eqb, ltb, leb}
@@ -11,16 +11,16 @@ use Rattle.mesh.specs.Words.{zeroWords}
 use Rattle.mesh.specs.Complex.{mem}
 use Rattle.mesh.specs.Tests.{every}
 use Rattle.mesh.specs.Sets.{times}
-use Rattle.mesh.specs.Element.{cornersOf, pair, triple, samePair}
+use Rattle.mesh.specs.Element.{cornersOf, pair, triple, edge, samePair}
 
--- the three edges of a triple, each with its smaller vertex first
-abbrev pub edgesOf : Triple → List Pair
-edgesOf f = pair (min (f .a) (f .b)) (max (f .a) (f .b)) ∷ pair (min (f .b) (f .c)) (max (f .b) (f .c)) ∷ pair (min (f .c) (f .a)) (max (f .c) (f .a)) ∷ []
+-- the three edges of a triple
+abbrev pub sidesOf : Triple → List Pair
+sidesOf f = edge (f .a) (f .b) ∷ edge (f .b) (f .c) ∷ edge (f .c) (f .a) ∷ []
 
 -- the edges of all triples, as often as triples have them
 unfoldable pub surfaceEdges : List Triple → List Pair
 surfaceEdges [] = []
-surfaceEdges (f ∷ fs) = edgesOf f ++ surfaceEdges fs
+surfaceEdges (f ∷ fs) = sidesOf f ++ surfaceEdges fs
 
 -- is every edge on exactly two triples
 unfoldable pub edgesTwice : List Triple → Bool

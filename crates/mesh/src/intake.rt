@@ -4,6 +4,7 @@ use crate::boundary::boundary_in;
 use crate::element::Pair;
 use crate::element::Tet;
 use crate::element::Triple;
+use crate::element::edge;
 use crate::element::four_different;
 use crate::measure::is_above;
 use crate::rows::eq_rows;
@@ -340,16 +341,6 @@ fn elements_in(elements: &[u32], n: usize, vertices: usize) -> bool
     true
 }
 
-// x and y in rising order.
-fn rising_two(x: u32, y: u32) -> Pair
-    ensures { λ r. ⌜ r .a ∷ r .b ∷ [] ≡ insert leb x (y ∷ []) ⌝ }
-{
-    if x <= y {
-        return Pair { a: x, b: y };
-    }
-    Pair { a: y, b: x }
-}
-
 // x put to its place among two.
 fn rising_three(x: u32, p: Pair) -> Triple
     ensures { λ r. ⌜ cornersOf r ≡ insert leb x (p .a ∷ p .b ∷ []) ⌝ }
@@ -415,7 +406,7 @@ fn rising_four(x: u32, f: Triple) -> Tet
 fn rising(t: Tet) -> Tet
     ensures { λ r. ⌜ verticesOf r ≡ vertexRow t ⌝ }
 {
-    rising_four(t.a, rising_three(t.b, rising_two(t.c, t.d)))
+    rising_four(t.a, rising_three(t.b, edge(t.c, t.d)))
 }
 
 // Writes the four vertices of an element at p.

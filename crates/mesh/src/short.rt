@@ -4,6 +4,7 @@
 // has 4 words: the bits of the edge's length, high word and low word, the smaller vertex and the larger vertex.
 use crate::element::Pair;
 use crate::element::Tet;
+use crate::element::edge;
 use crate::euler::tet_ends;
 use crate::list::is_bad_tet;
 use crate::list::set_from;
@@ -15,12 +16,12 @@ use crate::words::low_half;
 use geometry::word::order_bits;
 ghost use mathlib.Core.Path.{_≡_};
 ghost use mathlib.Core.List.{[], _∷_};
-ghost use Prim.Native.Nat.{_+_, _*_, _≤_, min, max};
+ghost use Prim.Native.Nat.{_+_, _*_, _≤_};
 ghost use lib.ListN.{length};
 ghost use Rattle.mesh.specs.Words.{pointsOf};
 ghost use Rattle.mesh.specs.Complex.{keep};
-ghost use Rattle.mesh.specs.Element.{pair, tets};
-ghost use Rattle.mesh.specs.inside.List.{badIn, edgesOf, allEdges, Pushed};
+ghost use Rattle.mesh.specs.Element.{tets, edgesOf, allEdges};
+ghost use Rattle.mesh.specs.inside.List.{badIn, Pushed};
 ghost use Rattle.mesh.specs.inside.Short.{shortFits, Shorts, shortIn, shortRows};
 
 // Whether n is at most 65,536 and an area for n slots fits into m words.
@@ -31,16 +32,6 @@ fn short_fits(n: usize, m: usize) -> bool
         return false;
     }
     52 * n <= m
-}
-
-// The pair with its smaller number first.
-fn rising(e: Pair) -> Pair
-    ensures { λ r. ⌜ r ≡ pair (min (e .a) (e .b)) (max (e .a) (e .b)) ⌝ }
-{
-    if e.a < e.b {
-        return e;
-    }
-    Pair { a: e.b, b: e.a }
 }
 
 // Writes the row of an edge at p where it is shorter than the limit, and gives how many rows that is.
@@ -65,7 +56,8 @@ fn push_edges(area: &mut [u32], p: usize, points: &[f64], nv: usize, limit: f64,
     let mut k = 0;
     let mut j = 0;
     while j < 6 {
-        let e = rising(tet_ends(t, j));
+        let x = tet_ends(t, j);
+        let e = edge(x.a, x.b);
         k += push_edge(area, p + 4 * k, points, nv, limit, e);
         j += 1;
     }

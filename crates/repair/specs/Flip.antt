@@ -16,11 +16,11 @@ use Rattle.mesh.specs.Sort.{sort, unique}
 use Rattle.mesh.specs.Complex.{keep}
 use Rattle.mesh.specs.Tests.{every, any}
 use Rattle.mesh.specs.Link.{without}
-use Rattle.mesh.specs.Element.{samePair, tet, verticesOf, cornersOf, keyOf, lePair, hasAll}
+use Rattle.mesh.specs.Element.{allEdges, samePair, tet, verticesOf, cornersOf, keyOf, lePair, hasAll}
 use Rattle.mesh.specs.Boundary.{sameTriple, leTriple, allFaces, boundaryNumber, boundaryOf}
 use Rattle.mesh.specs.Words.{numbers}
 use Rattle.mesh.specs.Measure.{Measure, measure, isBad, badCount, lowestOf}
-use Rattle.repair.specs.Mesh.{Mesh, Result, made, refused, allEdges}
+use Rattle.repair.specs.Mesh.{Mesh, Result, made, refused}
 
 -- ---- slots
 

@@ -16,13 +16,13 @@ use Rattle.mesh.specs.Words.{pointAt}
 use Rattle.mesh.specs.Sort.{sort, unique}
 use Rattle.mesh.specs.Complex.{mem, sub, keep}
 use Rattle.mesh.specs.Tests.{every, nodup, any}
-use Rattle.mesh.specs.Element.{pair, samePair, tet, verticesOf, lePair}
+use Rattle.mesh.specs.Element.{pair, allEdges, samePair, tet, verticesOf, lePair}
 use Rattle.mesh.specs.Boundary.{boundaryNumber, boundaryOf}
 use Rattle.mesh.specs.Feature.{bitsOf, linkOk}
 use Rattle.mesh.specs.Manifold.{nonmanifold}
 use Rattle.mesh.specs.Group.{groupOf}
 use Rattle.mesh.specs.Measure.{Measure, measure, isBad, badCount, lowestOf}
-use Rattle.repair.specs.Mesh.{Mesh, Result, made, refused, has, allEdges}
+use Rattle.repair.specs.Mesh.{Mesh, Result, made, refused, has}
 
 -- ---- the edges that a round takes
 

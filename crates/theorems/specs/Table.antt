@@ -16,14 +16,14 @@ use Rattle.geometry.specs.Score.{squaredEdge, squaredEdges, score, bad, lowest,
 use Rattle.geometry.specs.declared.bounds.Options.{Options}
 use Rattle.geometry.specs.Bounds.{canonical}
 use Rattle.geometry.specs.Rank.{nearestAway, rankValue, rank}
-use Rattle.mesh.specs.Element.{tet, triple, verticesOf, sortFirst, sortLast, keyOf, parityOf}
+use Rattle.mesh.specs.Element.{tet, triple, verticesOf, allEdges, sortFirst, sortLast, keyOf, parityOf}
 use Rattle.mesh.specs.Boundary.{leTriple, allFaces, singles, boundaryOf, keyNumber, firstNumber, boundaryNumber}
 use Rattle.mesh.specs.declared.element.Tet.{Tet}
 use Rattle.mesh.specs.Intake.{Given, allDifferent, intake}
 use Rattle.mesh.specs.Sort.{insert, sort, unique, uniqueAfter}
 use Rattle.mesh.specs.Complex.{faces, alternating}
 use Rattle.mesh.specs.Words.{numbers}
-use Rattle.repair.specs.Mesh.{Mesh, made, allEdges}
+use Rattle.repair.specs.Mesh.{Mesh, made}
 use Rattle.repair.specs.Flip.{live, emptied, besides, listedFaces, listedEdges, replace, tryFace, tryEdge, tryFaces, tryEdges, flips, sameTriples, endNumber, flipBy, flip}
 
 abbrev at : Float → Float → Float → Point

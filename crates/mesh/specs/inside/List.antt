@@ -2,13 +2,12 @@
 -- bad at the start of the pass". Elements stand in slots; a slot whose first word is 0xFFFFFFFF holds none. Rows are sorted, each is there
 -- once, and its words are vertices in rising order. For contracts of private functions and for proofs; definitions only.
 use mathlib.Core.Path.{_≡_}
-use Prim.Native.Nat.{ℕ, _+_, _-_, _*_, min, max}
+use Prim.Native.Nat.{ℕ, _+_, _-_, _*_}
 use mathlib.Core.Bool.{Bool, not, cond, _&&_}
-use mathlib.Core.List.{List, [], _∷_, _++_, map}
+use mathlib.Core.List.{List, _++_, map}
 use lib.Dec.{eqb, leb}
 use lib.ListN.{length, take, drop}
 use Rattle.geometry.specs.declared.point.Point.{Point}
-use Rattle.mesh.specs.declared.element.Pair.{Pair}
 use Rattle.mesh.specs.declared.element.Tet.{Tet}
 use Rattle.mesh.specs.declared.list.Listed.{Listed}
 use Rattle.mesh.specs.Words.{zeroWords, flat}
@@ -16,8 +15,8 @@ use Rattle.mesh.specs.Sort.{sort, unique}
 use Rattle.mesh.specs.inside.Rows.{leRow, eqRow}
 use Rattle.mesh.specs.Complex.{keep}
 use Rattle.mesh.specs.Measure.{measure, isBad}
-use Rattle.mesh.specs.Element.{pair, verticesOf, tets}
-use Rattle.mesh.specs.inside.Euler.{endsOf, spread, edgeRows, triangleRows}
+use Rattle.mesh.specs.Element.{verticesOf, tets}
+use Rattle.mesh.specs.inside.Euler.{spread, edgeRows, triangleRows}
 
 -- ---- bad elements
 
@@ -41,14 +40,6 @@ badEdges ps ts = setOf (spread edgeRows (keep (badIn ps) ts))
 
 abbrev pub badFaces : List Point → List Tet → List (List ℕ)
 badFaces ps ts = setOf (spread triangleRows (keep (badIn ps) ts))
-
--- the same as values: the edges of all elements, the smaller vertex first, and their order by numbers
-abbrev pub edgesOf : Tet → List Pair
-edgesOf t = map (λ e. pair (min (e .a) (e .b)) (max (e .a) (e .b))) (endsOf t)
-
-unfoldable pub allEdges : List Tet → List Pair
-allEdges [] = []
-allEdges (t ∷ ts) = edgesOf t ++ allEdges ts
 
 -- ---- within one area
 

@@ -14,8 +14,8 @@ use Rattle.mesh.specs.Words.{zeroWords, flat}
 use Rattle.mesh.specs.Sort.{sort, unique}
 use Rattle.mesh.specs.Complex.{keep}
 use Rattle.mesh.specs.Measure.{lengthOf}
-use Rattle.mesh.specs.Element.{samePair, tets, lePair}
-use Rattle.mesh.specs.inside.List.{badIn, allEdges}
+use Rattle.mesh.specs.Element.{samePair, tets, lePair, allEdges}
+use Rattle.mesh.specs.inside.List.{badIn}
 
 -- is the edge shorter
 abbrev pub short : List Point → Float → Pair → Bool

@@ -10,13 +10,13 @@ use Rattle.mesh.specs.declared.element.Tet.{Tet}
 use Rattle.mesh.specs.Sort.{sort, unique}
 use Rattle.mesh.specs.inside.Rows.{leRow, eqRow}
 use Rattle.mesh.specs.Complex.{keep}
-use Rattle.mesh.specs.Element.{keyOf, cornersOf, samePair, lePair}
+use Rattle.mesh.specs.Element.{keyOf, cornersOf, allEdges, samePair, lePair}
 use Rattle.mesh.specs.Boundary.{sameTriple, leTriple, allFaces}
 use Rattle.mesh.specs.inside.Euler.{spread, edgeRows, triangleRows}
 use Rattle.mesh.proofs.Laws.Group.Images.{sort-map, unique-map}
 use Rattle.mesh.proofs.Laws.Group.Ranks.{last-le}
 use Rattle.mesh.proofs.Laws.Boundary.Order.{le-corners, eq-corners}
-use Rattle.mesh.specs.inside.List.{badIn, setOf, badEdges, badFaces, allEdges}
+use Rattle.mesh.specs.inside.List.{badIn, setOf, badEdges, badFaces}
 
 -- an edge as a row
 abbrev pub pairRow : Pair → List ℕ

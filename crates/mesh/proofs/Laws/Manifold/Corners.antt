@@ -19,7 +19,7 @@ use Rattle.mesh.specs.Complex.{keep}
 use Rattle.mesh.specs.Tests.{every}
 use Rattle.mesh.specs.Sets.{times}
 use Rattle.mesh.specs.Element.{triple, samePair}
-use Rattle.mesh.specs.Manifold.{edgesOf, surfaceEdges, edgesTwice, surfaceLink, oneCycle, surfaceVertices, triples}
+use Rattle.mesh.specs.Manifold.{sidesOf, surfaceEdges, edgesTwice, surfaceLink, oneCycle, surfaceVertices, triples}
 use Rattle.mesh.proofs.Laws.Bools.{split, clash, and-intro, and-left, and-right}
 use Rattle.mesh.proofs.Laws.NumbersFrom.{every-numbers}
 use Rattle.mesh.proofs.Laws.Rows.{eqRow-sound}
@@ -65,7 +65,7 @@ triples-from s i k =
 abbrev pairRow : Pair → List ℕ
 pairRow e = e .a ∷ e .b ∷ []
 
-edge-three : (s : List ℕ) (i : ℕ) → edgeRow s (3 * i) ∷ edgeRow s (3 * i + 1) ∷ edgeRow s (3 * i + 2) ∷ [] ≡ map pairRow (edgesOf (tripleAt s i))
+edge-three : (s : List ℕ) (i : ℕ) → edgeRow s (3 * i) ∷ edgeRow s (3 * i + 1) ∷ edgeRow s (3 * i + 2) ∷ [] ≡ map pairRow (sidesOf (tripleAt s i))
 unfolding edgeRow
 edge-three s i =
     rw (
@@ -83,7 +83,7 @@ edge-rows-from s zero i = refl
 edge-rows-from s (suc k) i =
     ap (map (edgeRow s)) (three i k)
     ∙ ap₂ (λ (u v : List (List ℕ)). u ++ v) (edge-three s i) (edge-rows-from s k (suc i))
-    ∙ sym (map-append pairRow (edgesOf (tripleAt s i)) (surfaceEdges (triples k (drop (3 * suc i) s))))
+    ∙ sym (map-append pairRow (sidesOf (tripleAt s i)) (surfaceEdges (triples k (drop (3 * suc i) s))))
     ∙ ap (λ (l : List Triple). map pairRow (surfaceEdges l)) (sym (triples-from s i k))
 
 edge-rows : (s : List ℕ) (n : ℕ) → map (edgeRow s) (numbers 0 (3 * n)) ≡ map pairRow (surfaceEdges (triples n s))

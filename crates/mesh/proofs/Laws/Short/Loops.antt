@@ -1,8 +1,8 @@
 -- The loops that push rows of short edges: over the edges of an element, and over the slots. Assumes nothing.
-use mathlib.Core.Path.{_≡_, refl, sym, ap, ap₂, subst, _∙_}
+use mathlib.Core.Path.{_≡_, refl, sym, ap, subst, _∙_}
 use mathlib.Core.Bool.{true, false}
 use mathlib.Core.List.{List, [], _∷_, _++_, append-assoc, append-nil}
-use Prim.Native.Nat.{ℕ, _+_, _*_, _≤_, _<_, min, max}
+use Prim.Native.Nat.{ℕ, _+_, _*_, _≤_, _<_}
 use native.Mathlib.Numerals.{add-one}
 use native.Mathlib.Omega.{arith}
 use lib.Ieee.{Float}
@@ -12,11 +12,11 @@ use Rattle.geometry.specs.declared.point.Point.{Point}
 use Rattle.mesh.specs.declared.element.Pair.{Pair}
 use Rattle.mesh.specs.declared.element.Tet.{Tet}
 use Rattle.mesh.specs.Complex.{keep}
-use Rattle.mesh.specs.Element.{pair, tet, tets}
+use Rattle.mesh.specs.Element.{pair, tet, tets, edge, edgesOf, allEdges}
 use Rattle.mesh.specs.inside.Intake.{tetAt}
 use Rattle.mesh.specs.inside.Manifold.{KeptBelow}
 use Rattle.mesh.specs.inside.Euler.{endsOf, endsAt}
-use Rattle.mesh.specs.inside.List.{badIn, edgesOf, allEdges, Pushed}
+use Rattle.mesh.specs.inside.List.{badIn, Pushed}
 use Rattle.mesh.proofs.Laws.Boundary.Same.{length-keep}
 use Rattle.mesh.proofs.Laws.Intake.Reads.{length-tets, tets-at}
 use Rattle.mesh.proofs.Laws.Euler.Areas.{tet-kept}
@@ -25,20 +25,8 @@ use Rattle.mesh.specs.inside.Short.{shortRows}
 use Rattle.mesh.proofs.Laws.Short.Push.{shape-short, short-append, short-few, no-rows}
 
 -- an edge with its smaller vertex first
-abbrev pub rise : Pair → Pair
-rise e = pair (min (e .a) (e .b)) (max (e .a) (e .b))
-
-pub rise-up : (e : Pair) → e .a < e .b → e ≡ rise e
-rise-up e h =
-    let p : min (e .a) (e .b) ≡ e .a = omega arith in
-    let q : max (e .a) (e .b) ≡ e .b = omega arith in
-    ap₂ (λ (u v : ℕ). pair u v) (sym p) (sym q)
-
-pub rise-down : (e : Pair) → e .b ≤ e .a → pair (e .b) (e .a) ≡ rise e
-rise-down e h =
-    let p : min (e .a) (e .b) ≡ e .b = omega arith in
-    let q : max (e .a) (e .b) ≡ e .a = omega arith in
-    ap₂ (λ (u v : ℕ). pair u v) (sym p) (sym q)
+abbrev rise : Pair → Pair
+rise e = edge (e .a) (e .b)
 
 -- ---- the edges of an element
 

@@ -12,9 +12,9 @@ use Rattle.geometry.specs.declared.point.Point.{Point}
 use Rattle.mesh.specs.Words.{zeroWords, flat}
 use Rattle.mesh.specs.inside.Rows.{rows}
 use Rattle.mesh.specs.Complex.{keep}
-use Rattle.mesh.specs.Element.{tets}
+use Rattle.mesh.specs.Element.{tets, allEdges}
 use Rattle.mesh.specs.inside.Manifold.{KeptBelow}
-use Rattle.mesh.specs.inside.List.{badIn, allEdges, setOf, Pushed}
+use Rattle.mesh.specs.inside.List.{badIn, setOf, Pushed}
 use Rattle.mesh.proofs.Laws.Bools.{and-left, and-right}
 use Rattle.mesh.specs.inside.Short.{shortEdges, edgeRow, shortFits, Shorts, shortIn, shortRows}
 use Rattle.mesh.proofs.Laws.Short.Order.{set-rows}

@@ -19,8 +19,8 @@ loop-holds c = edges-start (pointsOf (c .before .before .args .nv) (c .before .b
 tet-ends-requires : tie.Need-tet-ends-requires Inv-loop μ-loop
 tet-ends-requires c κs = search needs
 
-rising-requires : tie.Need-rising-requires Inv-loop μ-loop
-rising-requires c κs = search needs
+edge-requires : tie.Need-edge-requires Inv-loop μ-loop
+edge-requires c κs = search needs
 
 mul-push-edge : tie.Need-mul-push-edge Inv-loop μ-loop
 mul-push-edge c = omega (arith, c .before .before .before .before .loop .inv .few, c .before .before .before .before .loop .inv .bound)
@@ -32,7 +32,7 @@ push-edge-requires : tie.Need-push-edge-requires Inv-loop μ-loop
 push-edge-requires c κs = omega (arith, c .before .before .before .before .loop .inv .few, c .before .before .before .loop-test .taken, (c .before .before .before .before .before .before .before .pre), edges-kept (pointsOf (c .before .before .before .before .before .before .before .args .nv) (c .before .before .before .before .before .before .before .args .points .now)) (c .before .before .before .before .before .before .before .args .limit) (c .before .before .before .before .before .before .before .args .t) (c .before .before .before .before .before .before .before .args .p) (c .before .before .before .before .before .before .before .args .area .now) ((c .before .before .before .before .before .before .before .pre)) (c .before .before .before .before .loop .inv) .long)
 
 add-k : tie.Need-add-k Inv-loop μ-loop
-add-k c = omega (arith, edges-turn (pointsOf (c .before .before .before .before .before .before .before .before .before .before .args .nv) (c .before .before .before .before .before .before .before .before .before .before .args .points .now)) (c .before .before .before .before .before .before .before .before .before .before .args .limit) (c .before .before .before .before .before .before .before .before .before .before .args .t) (c .before .before .before .before .before .before .before .before .before .before .args .p) (c .before .before .before .before .before .before .before .before .before .before .args .area .now) ((c .before .before .before .before .before .before .before .before .before .before .pre)) (c .before .before .before .before .before .before .before .loop .inv) (c .before .before .before .before .before .before .loop-test .taken) (c .before .before .before .before .before .tet-ends .ensures) (c .before .before .before .before .rising .ensures) (c .before .before .push-edge .ensures) .few, c .before .before .before .before .before .before .loop-test .taken)
+add-k c = omega (arith, edges-turn (pointsOf (c .before .before .before .before .before .before .before .before .before .before .args .nv) (c .before .before .before .before .before .before .before .before .before .before .args .points .now)) (c .before .before .before .before .before .before .before .before .before .before .args .limit) (c .before .before .before .before .before .before .before .before .before .before .args .t) (c .before .before .before .before .before .before .before .before .before .before .args .p) (c .before .before .before .before .before .before .before .before .before .before .args .area .now) ((c .before .before .before .before .before .before .before .before .before .before .pre)) (c .before .before .before .before .before .before .before .loop .inv) (c .before .before .before .before .before .before .loop-test .taken) (c .before .before .before .before .before .tet-ends .ensures) (c .before .before .before .before .edge .ensures) (c .before .before .push-edge .ensures) .few, c .before .before .before .before .before .before .loop-test .taken)
 
 add-j : tie.Need-add-j Inv-loop μ-loop
 add-j c = search needs
@@ -41,7 +41,7 @@ loop-less : tie.Need-loop-less Inv-loop μ-loop
 loop-less c = search needs
 
 loop-again : tie.Need-loop-again Inv-loop μ-loop
-loop-again c = edges-turn (pointsOf (c .before .before .before .before .before .before .before .before .before .before .args .nv) (c .before .before .before .before .before .before .before .before .before .before .args .points .now)) (c .before .before .before .before .before .before .before .before .before .before .args .limit) (c .before .before .before .before .before .before .before .before .before .before .args .t) (c .before .before .before .before .before .before .before .before .before .before .args .p) (c .before .before .before .before .before .before .before .before .before .before .args .area .now) ((c .before .before .before .before .before .before .before .before .before .before .pre)) (c .before .before .before .before .before .before .before .loop .inv) (c .before .before .before .before .before .before .loop-test .taken) (c .before .before .before .before .before .tet-ends .ensures) (c .before .before .before .before .rising .ensures) (c .before .before .push-edge .ensures)
+loop-again c = edges-turn (pointsOf (c .before .before .before .before .before .before .before .before .before .before .args .nv) (c .before .before .before .before .before .before .before .before .before .before .args .points .now)) (c .before .before .before .before .before .before .before .before .before .before .args .limit) (c .before .before .before .before .before .before .before .before .before .before .args .t) (c .before .before .before .before .before .before .before .before .before .before .args .p) (c .before .before .before .before .before .before .before .before .before .before .args .area .now) ((c .before .before .before .before .before .before .before .before .before .before .pre)) (c .before .before .before .before .before .before .before .loop .inv) (c .before .before .before .before .before .before .loop-test .taken) (c .before .before .before .before .before .tet-ends .ensures) (c .before .before .before .before .edge .ensures) (c .before .before .push-edge .ensures)
 
 same-length : tie.Need-same-length Inv-loop μ-loop
 same-length c = edges-kept (pointsOf (c .before .before .before .before .args .nv) (c .before .before .before .before .args .points .now)) (c .before .before .before .before .args .limit) (c .before .before .before .before .args .t) (c .before .before .before .before .args .p) (c .before .before .before .before .args .area .now) ((c .before .before .before .before .pre)) (c .before .loop .inv) .long
@@ -57,7 +57,7 @@ push-edges-spec =
     μ-loop
     loop-holds
     tet-ends-requires
-    rising-requires
+    edge-requires
     mul-push-edge
     add-push-edge
     push-edge-requires

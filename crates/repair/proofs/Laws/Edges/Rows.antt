@@ -12,8 +12,8 @@ use Rattle.mesh.specs.declared.element.Tet.{Tet}
 use Rattle.mesh.specs.Words.{wordAt, flat}
 use Rattle.mesh.specs.Sort.{sort}
 use Rattle.mesh.specs.Complex.{keep}
-use Rattle.mesh.specs.Element.{pair, samePair}
-use Rattle.mesh.specs.inside.List.{badIn, allEdges}
+use Rattle.mesh.specs.Element.{pair, allEdges, samePair}
+use Rattle.mesh.specs.inside.List.{badIn}
 use Rattle.mesh.specs.inside.Short.{short, leEdge, shortEdges, edgeRow}
 use Rattle.mesh.proofs.Laws.Boundary.Same.{length-keep}
 use Rattle.mesh.proofs.Laws.Sort.{length-sort}

@@ -15,7 +15,7 @@ use Rattle.mesh.specs.declared.element.Tet.{Tet}
 use Rattle.mesh.specs.Sort.{sort, unique}
 use Rattle.mesh.specs.Complex.{keep}
 use Rattle.mesh.specs.Tests.{every}
-use Rattle.mesh.specs.Element.{keyOf, cornersOf, samePair, lePair}
+use Rattle.mesh.specs.Element.{edge, allEdges, keyOf, cornersOf, samePair, lePair}
 use Rattle.mesh.specs.Boundary.{sameTriple, leTriple, allFaces}
 use Rattle.mesh.specs.Intake.{wellNumbered}
 use Rattle.mesh.specs.inside.List as slots
@@ -29,14 +29,13 @@ use Rattle.mesh.proofs.Laws.Link.Simplices.{every-mem, rising, rising-head, ris
 use Rattle.mesh.proofs.Laws.Link.Keys.{Fours, key-mem}
 use Rattle.mesh.proofs.Laws.List.Meaning.{pairRow, bad-edges}
 use Rattle.mesh.proofs.Laws.Intake.Numbered.{below}
-use Rattle.repair.specs.Mesh.{edge, allEdges}
 use Rattle.repair.specs.Flip.{listedEdges}
 use Rattle.repair.specs.inside.flip.Tries.{FaceListed, FacesListed, EdgesListed, edgeRow}
 use Rattle.repair.proofs.Laws.Rounds.{every-weaker}
 use Rattle.repair.proofs.Laws.Finish.Elements.{all-below}
 use Rattle.repair.proofs.Laws.Finish.Surface.{faces-every}
 use Rattle.repair.proofs.Laws.Improve.Intake.{numbered-element}
-use Rattle.repair.proofs.Laws.Improve.Short.{Live, bad-same, edges-same}
+use Rattle.repair.proofs.Laws.Improve.Short.{Live, bad-same}
 use Rattle.repair.proofs.Laws.Improve.Edges.{every-keep, every-unique, joins, edges-join}
 use Rattle.repair.proofs.Laws.Flip.Listed.{keys-rise}
 use Rattle.repair.proofs.Laws.Flip.Shared.{owners-numbers}
@@ -122,7 +121,7 @@ pub edges-rows : (ps : List Point) (ts : List Tet) → Live ts → slots.badEdge
 unfolding listedEdges
 edges-rows ps ts live =
     bad-edges ps ts
-    ∙ ap (λ (l : List Pair). map pairRow (unique samePair (sort lePair l))) (ap slots.allEdges (bad-same ps ts live) ∙ edges-same (keep (isBad (measure ps)) ts))
+    ∙ ap (λ (bads : List Tet). map pairRow (unique samePair (sort lePair (allEdges bads)))) (bad-same ps ts live)
 
 edge-rises : (u v : ℕ) → leb (edge u v .a) (edge u v .b) ≡ true
 edge-rises u v = le-leb (min u v) (max u v) (omega arith)

@@ -13,7 +13,7 @@ use Rattle.mesh.specs.declared.element.Tet.{Tet}
 use Rattle.mesh.specs.Sort.{sort, unique, uniqueAfter}
 use Rattle.mesh.specs.Complex.{keep}
 use Rattle.mesh.specs.Tests.{every}
-use Rattle.mesh.specs.Element.{facesOf, cornersOf, keyOf, samePair, lePair}
+use Rattle.mesh.specs.Element.{edge, allEdges, facesOf, cornersOf, keyOf, samePair, lePair}
 use Rattle.mesh.specs.Boundary.{sameTriple, leTriple, allFaces}
 use Rattle.mesh.specs.Measure.{Measure, isBad}
 use Rattle.mesh.proofs.Laws.Complex.Sets.{and-fst, and-snd, out-head, out-tail}
@@ -21,7 +21,6 @@ use Rattle.mesh.proofs.Laws.Link.Members.{kept-elim}
 use Rattle.mesh.proofs.Laws.Link.Simplices.{rising}
 use Rattle.mesh.proofs.Laws.Link.Keys.{Fours, key-rising, face-nodup}
 use Rattle.mesh.proofs.Laws.Boundary.Same.{sort-every}
-use Rattle.repair.specs.Mesh.{edge, allEdges}
 use Rattle.repair.specs.Flip.{listedFaces, listedEdges}
 
 -- ---- all pass

@@ -16,13 +16,12 @@ use Rattle.mesh.specs.Sort.{sort, uniqueAfter, unique}
 use Rattle.mesh.specs.Complex.{keep}
 use Rattle.mesh.specs.inside.Complex.{IsElement, Proper}
 use Rattle.mesh.specs.Tests.{every}
-use Rattle.mesh.specs.Element.{samePair, verticesOf}
+use Rattle.mesh.specs.Element.{edge, edgesOf, allEdges, samePair, verticesOf}
 use Rattle.mesh.specs.Measure.{Measure, isBad}
 use Rattle.mesh.proofs.Laws.Complex.Sets.{split, and-fst, and-snd, mem-here, mem-there, out-head, out-tail}
 use Rattle.mesh.proofs.Laws.Complex.Tets.{tet-of}
 use Rattle.mesh.proofs.Laws.Link.Members.{kept-elim}
 use Rattle.mesh.proofs.Laws.Boundary.Same.{sort-every}
-use Rattle.repair.specs.Mesh.{edge, edgesOf, allEdges}
 use Rattle.repair.specs.Improve.{leEdge, listedEdges}
 
 -- ---- a test that all pass

@@ -1,22 +1,20 @@
 -- The edges that `mesh::short` lists are those that a round takes. Assumes nothing.
-use mathlib.Core.Path.{_≡_, refl, ap, ap₂, _∙_}
+use mathlib.Core.Path.{_≡_, refl, ap, ap₂}
 use mathlib.Core.Bool.{Bool, true, not, cond}
-use mathlib.Core.List.{List, [], _∷_, _++_}
+use mathlib.Core.List.{List, [], _∷_}
 use lib.Ieee.{Float}
 use Rattle.geometry.specs.declared.point.Point.{Point}
 use Rattle.geometry.specs.Float.{_*₆₄_}
 use Rattle.geometry.specs.Literals.{threeQuarters}
-use Rattle.mesh.specs.declared.element.Pair.{Pair}
 use Rattle.mesh.specs.declared.element.Tet.{Tet}
 use Rattle.mesh.specs.Sort.{sort, unique}
 use Rattle.mesh.specs.Complex.{keep}
 use Rattle.mesh.specs.Tests.{every}
-use Rattle.mesh.specs.Element.{samePair}
+use Rattle.mesh.specs.Element.{allEdges, samePair}
 use Rattle.mesh.specs.inside.List as slots
 use Rattle.mesh.specs.inside.Short.{short, leEdge, shortEdges}
 use Rattle.mesh.specs.Measure.{measure, isBad}
 use Rattle.mesh.proofs.Laws.Bools.{and-left, and-right}
-use Rattle.repair.specs.Mesh.{edgesOf, allEdges}
 use Rattle.repair.specs.Improve.{listedEdges}
 
 -- an element stands in every slot
@@ -36,15 +34,8 @@ bad-same ps (t ∷ ts) h =
     let rest = and-right (not (slots.gone t)) (every (λ u. not (slots.gone u)) ts) h in
     ap₂ (λ (b : Bool) (l : List Tet). cond b (t ∷ l) l) (live-bad ps t live) (bad-same ps ts rest)
 
--- the edges of all elements are the same
-pub edges-same : (ts : List Tet) → slots.allEdges ts ≡ allEdges ts
-unfolding slots.allEdges allEdges
-edges-same [] = refl
-edges-same (t ∷ ts) = ap (λ (l : List Pair). edgesOf t ++ l) (edges-same ts)
-
 -- "the edges, listed at its start, of bad elements shorter than 0.75 h"
 pub short-listed : (ps : List Point) (h : Float) (ts : List Tet) → Live ts → shortEdges ps (threeQuarters *₆₄ h) ts ≡ listedEdges (measure ps) h ts
 unfolding shortEdges listedEdges
 short-listed ps h ts live =
-    ap (λ (l : List Pair). unique samePair (sort (leEdge ps) (keep (short ps (threeQuarters *₆₄ h)) l)))
-    (ap slots.allEdges (bad-same ps ts live) ∙ edges-same (keep (isBad (measure ps)) ts))
+    ap (λ (bads : List Tet). unique samePair (sort (leEdge ps) (keep (short ps (threeQuarters *₆₄ h)) (allEdges bads)))) (bad-same ps ts live)
