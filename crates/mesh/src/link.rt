@@ -87,7 +87,7 @@ fn edge_passes(
 }
 
 // Whether each of the first n elements has four different vertices.
-fn all_different(area: &[u32], n: usize) -> bool
+fn all_four_different(area: &[u32], n: usize) -> bool
     ensures { λ r. ⌜ r ≡ every (λ t. nodup (verticesOf t)) (tets n (now (area .entry))) ⌝ }
 {
     let mut e = 0;
@@ -111,7 +111,7 @@ fn link_fits(area: &[u32], n: usize) -> bool
     if area.len() < 88 * n {
         return false;
     }
-    all_different(area, n)
+    all_four_different(area, n)
 }
 
 // Whether the bits of a's stratum are b's and the edge a b passes `link_ok` among the n elements at the front of the area. The elements are kept,

@@ -1,6 +1,7 @@
-// Total accessors: a read past the end is 0, a write past the end does nothing. Behind them, a word as a size and the words of a u64.
+// Total accessors: a read past the end is 0, a write past the end does nothing. Behind them, a word as a size, the smaller of two
+// sizes and the words of a u64.
 ghost use mathlib.Core.Path.{_≡_};
-ghost use Prim.Native.Nat.{_+_, _≤_, _<_, _-_, _/_, _%_, _^_};
+ghost use Prim.Native.Nat.{_+_, _≤_, _<_, _-_, _/_, _%_, _^_, min};
 ghost use lib.ListN.{length, drop, set, take};
 ghost use lib.Seq.{paste};
 ghost use mathlib.Core.List.{_++_};
@@ -142,6 +143,13 @@ pub fn wide(x: u32) -> usize
     ensures { λ r. ⌜ (r ≡ x) × (r < 4294967296) ⌝ }
 {
     x as usize
+}
+
+// The smaller of two sizes.
+pub fn least(m: usize, n: usize) -> usize
+    ensures { λ r. ⌜ r ≡ min m n ⌝ }
+{
+    if m <= n { m } else { n }
 }
 
 // The high word of x.

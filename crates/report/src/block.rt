@@ -12,8 +12,9 @@ use crate::format::VERTEX_KIND;
 use crate::format::VERTICES_A_BLOCK;
 use crate::format::VERTICES_PLACE;
 use crate::format::WORDS_A_BLOCK;
+use mesh::words::least;
 ghost use mathlib.Core.Path.{_≡_};
-ghost use Prim.Native.Nat.{_<_, _≤_, _-_, _+_, _*_, min};
+ghost use Prim.Native.Nat.{_<_, _≤_, _-_, _+_, _*_};
 ghost use Rattle.report.specs.Format.{mostVertices, mostElements};
 ghost use Rattle.report.specs.Block.{addsToZero, isExpected, blockNumber, vertexBlocks, elementBlocks, kindOf, countOf, endNumber, blocksFrom, bodyNumber, fileNumber};
 
@@ -22,13 +23,6 @@ fn minus(n: usize, m: usize) -> usize
     ensures { λ r. ⌜ r ≡ n - m ⌝ }
 {
     if m <= n { n - m } else { 0 }
-}
-
-// The smaller of n and m.
-pub(crate) fn least(n: usize, m: usize) -> usize
-    ensures { λ r. ⌜ r ≡ min n m ⌝ }
-{
-    if n <= m { n } else { m }
 }
 
 // Whether the words of the block k add to 0 modulo 2^32.

@@ -1,6 +1,5 @@
 // The writer of block files: a plot's file, block by block, each word as four bytes.
 use crate::block::element_blocks;
-use crate::block::least;
 use crate::block::vertex_blocks;
 use crate::format::BALL_KIND;
 use crate::format::BYTES_A_BLOCK;
@@ -27,6 +26,7 @@ use geometry::point::Point;
 use geometry::word::high_word;
 use geometry::word::low_word;
 use mesh::words::float;
+use mesh::words::least;
 use mesh::words::word;
 ghost use mathlib.Core.Path.{_≡_};
 ghost use mathlib.Core.Bool.{cond};

@@ -8,10 +8,11 @@ use mesh::link::link_ok_in;
 use mesh::star::Index;
 use mesh::star::star;
 use mesh::vertex::tet_at;
+use mesh::words::least;
 use mesh::words::word;
 ghost use mathlib.Core.Path.{_≡_};
 ghost use mathlib.Core.Bool.{true, _&&_};
-ghost use Prim.Native.Nat.{_+_, _*_, _≤_, _<_, min};
+ghost use Prim.Native.Nat.{_+_, _*_, _≤_, _<_};
 ghost use lib.ListN.{length, take, drop};
 ghost use Rattle.geometry.specs.declared.bounds.Options.{Options};
 ghost use Rattle.mesh.specs.Words.{wordAt, pointsOf};
@@ -48,13 +49,6 @@ fn any_both(elements: &[u32], k: usize, a: u32, b: u32) -> bool
     false
 }
 
-// The smaller of two sizes.
-fn lesser(m: usize, n: usize) -> usize
-    ensures { λ r. ⌜ r ≡ min m n ⌝ }
-{
-    if m < n { m } else { n }
-}
-
 // Whether one of the k elements from i on has both a and b, and a b passes the link tests among them. The 84 k words behind them are
 // scratch.
 fn elements_link(
@@ -76,7 +70,7 @@ fn elements_link(
     if !any_both(&work[i..e], k, a, b) {
         return false;
     }
-    let m = lesser(nv, masks.len());
+    let m = least(nv, masks.len());
     link_ok_in(
         &mut work[i..e],
         k,

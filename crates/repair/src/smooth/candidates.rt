@@ -9,10 +9,11 @@ use geometry::point::norm;
 use geometry::point::sub;
 use mesh::intake::in_box;
 use mesh::vertex::vertex_point;
+use mesh::words::least;
 ghost use mathlib.Core.Path.{_≡_};
 ghost use mathlib.Core.Bool.{cond, _&&_};
 ghost use mathlib.Core.List.{map};
-ghost use Prim.Native.Nat.{min, _%_, _≤_};
+ghost use Prim.Native.Nat.{_%_, _≤_};
 ghost use lib.Dec.{eqb};
 ghost use lib.Ieee.{eq};
 ghost use lib.ListN.{length, take, getD};
@@ -21,13 +22,6 @@ ghost use Rattle.mesh.specs.Words.{pointAt, pointsOf};
 ghost use Rattle.repair.specs.Smooth.{chosen, outside, outsideAll, mean, along, stepCandidates, keptOn};
 ghost use Rattle.repair.specs.inside.smooth.Candidates.{allowedBy, shares, candidateAt, sum, divided};
 ghost use Rattle.repair.specs.Step.{regionsOf};
-
-// The smaller of two numbers.
-fn fewer(a: usize, b: usize) -> usize
-    ensures { λ r. ⌜ r ≡ min a b ⌝ }
-{
-    if a <= b { a } else { b }
-}
 
 // The lowest bit.
 fn low_bit(bits: u32) -> usize
@@ -40,7 +34,7 @@ fn low_bit(bits: u32) -> usize
 pub(crate) fn active_count(mask: u32, fields: [Field; 8], count: usize) -> usize
     ensures { λ r. ⌜ r ≡ length (chosen mask (take count fields)) ⌝ }
 {
-    let m = fewer(count, 8);
+    let m = least(count, 8);
     let mut n = 0;
     let mut i = 0;
     let mut bits = mask;
@@ -56,7 +50,7 @@ pub(crate) fn active_count(mask: u32, fields: [Field; 8], count: usize) -> usize
 pub(crate) fn active_fields(mask: u32, fields: [Field; 8], count: usize) -> [Field; 8]
     ensures { λ r. ⌜ take (length (chosen mask (take count fields))) r ≡ chosen mask (take count fields) ⌝ }
 {
-    let m = fewer(count, 8);
+    let m = least(count, 8);
     let mut r = fields;
     let mut n = 0;
     let mut i = 0;
@@ -75,7 +69,7 @@ pub(crate) fn active_fields(mask: u32, fields: [Field; 8], count: usize) -> [Fie
 fn outside(p: Point, fields: [Field; 8], count: usize) -> bool
     ensures { λ r. ⌜ r ≡ outside p (take count fields) ⌝ }
 {
-    let m = fewer(count, 8);
+    let m = least(count, 8);
     let mut i = 0;
     while i < m {
         let f = fields[i];
@@ -167,7 +161,7 @@ pub(crate) fn mean_of(parameters: &[f64], nv: usize, list: &[u32], n: usize) -> 
     requires { ⌜ n ≤ 4096 ⌝ }
     ensures { λ r. ⌜ r ≡ mean (map (pointAt (pointsOf nv (now (parameters .entry)))) (take n (now (list .entry)))) ⌝ }
 {
-    let m = fewer(n, list.len());
+    let m = least(n, list.len());
     let mut s = Point {
         x: -0.0,
         y: -0.0,

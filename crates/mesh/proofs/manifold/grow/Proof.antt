@@ -42,11 +42,11 @@ add-word-4 c = omega (arith, c .before .before .before .before .before .before .
 word-requires-2 : tie.Need-word-requires-2 Inv-loop μ-loop
 word-requires-2 c κs = search needs
 
-join-requires : tie.Need-join-requires Inv-loop μ-loop
-join-requires c κs = pair-known ((c .before .before .before .before .before .before .before .before .pre)) (c .before .before .before .before .before .before .loop .inv .2) (c .before .before .before .before .before .loop-test .taken) (c .before .before .before .word .ensures) (c .before .word2 .ensures)
+spread-mark-requires : tie.Need-spread-mark-requires Inv-loop μ-loop
+spread-mark-requires c κs = pair-known ((c .before .before .before .before .before .before .before .before .pre)) (c .before .before .before .before .before .before .loop .inv .2) (c .before .before .before .before .before .loop-test .taken) (c .before .before .before .word .ensures) (c .before .word2 .ensures)
 
 add-added : tie.Need-add-added Inv-loop μ-loop
-add-added c = omega (arith, c .before .before .join .ensures .1, c .before .before .before .before .before .before .before .before .before .before .before .pre .below, c .before .before .before .before .before .before .before .before .before .before .before .pre .few)
+add-added c = omega (arith, c .before .before .spread-mark .ensures .1, c .before .before .before .before .before .before .before .before .before .before .before .pre .below, c .before .before .before .before .before .before .before .before .before .before .before .pre .few)
 
 add-i : tie.Need-add-i Inv-loop μ-loop
 add-i c = search needs
@@ -55,7 +55,7 @@ loop-less : tie.Need-loop-less Inv-loop μ-loop
 loop-less c = search needs
 
 loop-again : tie.Need-loop-again Inv-loop μ-loop
-loop-again c = (omega arith, omega (arith, c .before .before .join .ensures .1), grow-turn ((c .before .before .before .before .before .before .before .before .before .before .before .pre)) (c .before .before .before .before .before .before .before .before .before .loop .inv .2) (c .before .before .before .before .before .before .before .before .loop-test .taken) (c .before .before .before .before .before .before .word .ensures) (c .before .before .before .before .word2 .ensures) (c .before .before .join .ensures .0))
+loop-again c = (omega arith, omega (arith, c .before .before .spread-mark .ensures .1), grow-turn ((c .before .before .before .before .before .before .before .before .before .before .before .pre)) (c .before .before .before .before .before .before .before .before .before .loop .inv .2) (c .before .before .before .before .before .before .before .before .loop-test .taken) (c .before .before .before .before .before .before .word .ensures) (c .before .before .before .before .word2 .ensures) (c .before .before .spread-mark .ensures .0))
 
 same-length : tie.Need-same-length Inv-loop μ-loop
 same-length c = c .before .loop .inv .2 .kept .long
@@ -78,7 +78,7 @@ grow-spec =
     add-word-3
     add-word-4
     word-requires-2
-    join-requires
+    spread-mark-requires
     add-added
     add-i
     loop-less

@@ -43,8 +43,8 @@ same-length c = search needs
 returns : tie.Need-returns
 returns c = (link-none (stratumOf (take (c .before .before .before .before .before .before .before .args .nv) (c .before .before .before .before .before .before .before .args .masks .now)) (pointsOf (c .before .before .before .before .before .before .before .args .nv) (c .before .before .before .before .before .before .before .args .parameters .now)) (c .before .before .before .before .before .before .before .args .bounds)) (c .before .before .before .before .before .before .before .args .a) (c .before .before .before .before .before .before .before .args .b) (c .before .before .before .before .before .before .before .args .i) (c .before .before .before .before .before .before .before .args .k) (c .before .before .before .before .before .before .before .args .work .now) (c .before .before .before .before .before .before .before .pre .1) (c .before .before .before .before .before .before .before .pre .2) (c .before .before .before .before .before .before .before .pre .3) (sym (c .before .any-both .ensures) ∙ not-true _ (c .if1 .taken)), same-refl (c .before .before .before .before .before .before .before .args .work .now) (c .before .before .before .before .before .before .before .args .i) (c .before .before .before .before .before .before .before .args .i + 88 * c .before .before .before .before .before .before .before .args .k))
 
-lesser-requires : tie.Need-lesser-requires
-lesser-requires c κs = search needs
+least-requires : tie.Need-least-requires
+least-requires c κs = search needs
 
 mul-link-ok-in : tie.Need-mul-link-ok-in
 mul-link-ok-in c = search needs
@@ -59,7 +59,7 @@ part-link-ok-in-end : tie.Need-part-link-ok-in-end
 part-link-ok-in-end c = search needs
 
 slice-aggregate-link-ok-in : tie.Need-slice-aggregate-link-ok-in
-slice-aggregate-link-ok-in c = sym (length-take-le (c .before .before .lesser .result) (c .before .before .before .before .before .before .before .before .before .before .args .masks .now) (omega (arith, c .before .before .lesser .ensures)))
+slice-aggregate-link-ok-in c = sym (length-take-le (c .before .before .least .result) (c .before .before .before .before .before .before .before .before .before .before .args .masks .now) (omega (arith, c .before .before .least .ensures)))
 
 link-ok-in-requires : tie.Need-link-ok-in-requires
 link-ok-in-requires c κs = search needs
@@ -69,9 +69,9 @@ same-length-2 c = search needs
 
 returns-2 : tie.Need-returns-2
 returns-2 c = (
-  link-some (stratumOf (take (c .before .before .before .before .before .lesser .result) (c .before .before .before .before .before .before .before .before .before .before .before .before .before .args .masks .now)) (pointsOf (c .before .before .before .before .before .before .before .before .before .before .before .before .before .args .nv) (c .before .before .before .before .before .before .before .before .before .before .before .before .before .args .parameters .now)) (c .before .before .before .before .before .before .before .before .before .before .before .before .before .args .bounds)) (c .before .before .before .before .before .before .before .before .before .before .before .before .before .args .a) (c .before .before .before .before .before .before .before .before .before .before .before .before .before .args .b) (c .before .before .before .before .before .before .before .before .before .before .before .before .before .args .i) (c .before .before .before .before .before .before .before .before .before .before .before .before .before .args .k) (c .before .before .before .before .before .before .before .before .before .before .before .before .before .args .work .now) (c .before .before .before .before .before .before .before .before .before .before .before .before .before .pre .1) (c .before .before .before .before .before .before .before .before .before .before .before .before .before .pre .2) (c .before .before .before .before .before .before .before .before .before .before .before .before .before .pre .3) (sym (c .before .before .before .before .before .before .before .any-both .ensures) ∙ not-false _ (c .before .before .before .before .before .before .if1 .left)) _ _ (c .before .before .link-ok-in .ensures)
+  link-some (stratumOf (take (c .before .before .before .before .before .least .result) (c .before .before .before .before .before .before .before .before .before .before .before .before .before .args .masks .now)) (pointsOf (c .before .before .before .before .before .before .before .before .before .before .before .before .before .args .nv) (c .before .before .before .before .before .before .before .before .before .before .before .before .before .args .parameters .now)) (c .before .before .before .before .before .before .before .before .before .before .before .before .before .args .bounds)) (c .before .before .before .before .before .before .before .before .before .before .before .before .before .args .a) (c .before .before .before .before .before .before .before .before .before .before .before .before .before .args .b) (c .before .before .before .before .before .before .before .before .before .before .before .before .before .args .i) (c .before .before .before .before .before .before .before .before .before .before .before .before .before .args .k) (c .before .before .before .before .before .before .before .before .before .before .before .before .before .args .work .now) (c .before .before .before .before .before .before .before .before .before .before .before .before .before .pre .1) (c .before .before .before .before .before .before .before .before .before .before .before .before .before .pre .2) (c .before .before .before .before .before .before .before .before .before .before .before .before .before .pre .3) (sym (c .before .before .before .before .before .before .before .any-both .ensures) ∙ not-false _ (c .before .before .before .before .before .before .if1 .left)) _ _ (c .before .before .link-ok-in .ensures)
       ∙ ap (λ (l : List ℕ). elementsLink (stratumOf l (pointsOf (c .before .before .before .before .before .before .before .before .before .before .before .before .before .args .nv) (c .before .before .before .before .before .before .before .before .before .before .before .before .before .args .parameters .now)) (c .before .before .before .before .before .before .before .before .before .before .before .before .before .args .bounds)) (c .before .before .before .before .before .before .before .before .before .before .before .before .before .args .a) (c .before .before .before .before .before .before .before .before .before .before .before .before .before .args .b) (tets (c .before .before .before .before .before .before .before .before .before .before .before .before .before .args .k) (drop (c .before .before .before .before .before .before .before .before .before .before .before .before .before .args .i) (c .before .before .before .before .before .before .before .before .before .before .before .before .before .args .work .now))))
-      (ap (λ (u : ℕ). take u (c .before .before .before .before .before .before .before .before .before .before .before .before .before .args .masks .now)) (c .before .before .before .before .before .lesser .ensures) ∙ take-min (c .before .before .before .before .before .before .before .before .before .before .before .before .before .args .nv) (c .before .before .before .before .before .before .before .before .before .before .before .before .before .args .masks .now)),
+      (ap (λ (u : ℕ). take u (c .before .before .before .before .before .before .before .before .before .before .before .before .before .args .masks .now)) (c .before .before .before .before .before .least .ensures) ∙ take-min (c .before .before .before .before .before .before .before .before .before .before .before .before .before .args .nv) (c .before .before .before .before .before .before .before .before .before .before .before .before .before .args .masks .now)),
   link-same (stratumOf (take (c .before .before .before .before .before .before .before .before .before .before .before .before .before .args .nv) (c .before .before .before .before .before .before .before .before .before .before .before .before .before .args .masks .now)) (pointsOf (c .before .before .before .before .before .before .before .before .before .before .before .before .before .args .nv) (c .before .before .before .before .before .before .before .before .before .before .before .before .before .args .parameters .now)) (c .before .before .before .before .before .before .before .before .before .before .before .before .before .args .bounds)) (c .before .before .before .before .before .before .before .before .before .before .before .before .before .args .a) (c .before .before .before .before .before .before .before .before .before .before .before .before .before .args .b) (c .before .before .before .before .before .before .before .before .before .before .before .before .before .args .i) (c .before .before .before .before .before .before .before .before .before .before .before .before .before .args .k) (c .before .before .before .before .before .before .before .before .before .before .before .before .before .args .work .now) (c .before .before .before .before .before .before .before .before .before .before .before .before .before .pre .1) (c .before .before .before .before .before .before .before .before .before .before .before .before .before .pre .2) (c .before .before .before .before .before .before .before .before .before .before .before .before .before .pre .3) (c .before .before .link-ok-in .last .0) (c .before .before .link-ok-in .kept .0),
 )
 
@@ -88,7 +88,7 @@ elements-link-spec =
     any-both-requires
     same-length
     returns
-    lesser-requires
+    least-requires
     mul-link-ok-in
     sub-link-ok-in
     part-link-ok-in-start

@@ -13,8 +13,8 @@ Inv-loop mask count m n₀ i₀ bits₀ n i bits = (i ≤ m) × (n ≤ i) × Cou
 abbrev μ-loop : tie.MeasureT-loop
 μ-loop mask count m n₀ i₀ bits₀ n i bits = m - i
 
-fewer-requires : tie.Need-fewer-requires Inv-loop μ-loop
-fewer-requires c κs = search needs
+least-requires : tie.Need-least-requires Inv-loop μ-loop
+least-requires c κs = search needs
 
 loop-holds : tie.Need-loop-holds Inv-loop μ-loop
 loop-holds c = (omega arith, omega arith, rw (zero-add, sub-zero))
@@ -32,10 +32,10 @@ loop-less : tie.Need-loop-less Inv-loop μ-loop
 loop-less c = search needs
 
 loop-again : tie.Need-loop-again Inv-loop μ-loop
-loop-again c = let e = low-few (c .before .before .loop .bits) (c .low-bit .result) (c .low-bit .ensures) in (omega arith, omega arith, count-turn (c .before .before .before .before .args .mask) (c .before .before .before .fewer .result) (c .before .before .loop .bits) (c .before .before .loop .i) (c .before .before .loop .n) (c .low-bit .result) (c .before .loop-test .taken) (c .low-bit .ensures) (c .before .before .loop .inv .2))
+loop-again c = let e = low-few (c .before .before .loop .bits) (c .low-bit .result) (c .low-bit .ensures) in (omega arith, omega arith, count-turn (c .before .before .before .before .args .mask) (c .before .before .before .least .result) (c .before .before .loop .bits) (c .before .before .loop .i) (c .before .before .loop .n) (c .low-bit .result) (c .before .loop-test .taken) (c .low-bit .ensures) (c .before .before .loop .inv .2))
 
 returns : tie.Need-returns Inv-loop μ-loop
-returns c = count-end (c .before .before .before .args .mask) (c .before .before .fewer .result) (c .before .before .before .args .fields) (c .before .before .before .args .count) (c .before .loop .bits) (c .before .loop .i) (c .before .loop .n) (c .before .before .before .good .1 .0 .1 .0 .1) (c .before .before .fewer .ensures) (c .loop-test .left) (c .before .loop .inv .2)
+returns c = count-end (c .before .before .before .args .mask) (c .before .before .least .result) (c .before .before .before .args .fields) (c .before .before .before .args .count) (c .before .loop .bits) (c .before .loop .i) (c .before .loop .n) (c .before .before .before .good .1 .0 .1 .0 .1) (c .before .before .least .ensures) (c .loop-test .left) (c .before .loop .inv .2)
 
 pub active-count-spec : {M : Type 1} → statement M
 active-count-spec =
@@ -43,7 +43,7 @@ active-count-spec =
     (tie.spec
     Inv-loop
     μ-loop
-    fewer-requires
+    least-requires
     loop-holds
     low-bit-requires
     add-n

@@ -16,11 +16,11 @@ Inv-loop mask count fields m r₀ n₀ i₀ bits₀ r n i bits = (i ≤ m) × (n
 abbrev μ-loop : tie.MeasureT-loop
 μ-loop mask count fields m r₀ n₀ i₀ bits₀ r n i bits = m - i
 
-fewer-requires : tie.Need-fewer-requires Inv-loop μ-loop
-fewer-requires c κs = search needs
+least-requires : tie.Need-least-requires Inv-loop μ-loop
+least-requires c κs = search needs
 
 loop-holds : tie.Need-loop-holds Inv-loop μ-loop
-loop-holds c = (omega arith, omega arith, c .before .good .1 .0 .1 .0 .1, omega (arith, c .fewer .ensures), refl)
+loop-holds c = (omega arith, omega arith, c .before .good .1 .0 .1 .0 .1, omega (arith, c .least .ensures), refl)
 
 mul-f : tie.Need-mul-f Inv-loop μ-loop
 mul-f c = search needs
@@ -47,10 +47,10 @@ loop-less : tie.Need-loop-less Inv-loop μ-loop
 loop-less c = search needs
 
 loop-again : tie.Need-loop-again Inv-loop μ-loop
-loop-again c = let e = low-few (c .before .before .before .loop .bits) (c .low-bit .result) (c .low-bit .ensures) in (omega arith, omega arith, length-set (c .before .before .before .loop .r) (c .before .before .before .loop .n) (getD (c .before .before .before .before .before .args .t2) (c .before .before .before .loop .i) (Level nan)) ∙ c .before .before .before .loop .inv .2, c .before .before .before .loop .inv .3, gather-turn (c .before .before .before .before .before .args .mask) (c .before .before .before .before .before .args .t2) (c .before .before .before .before .before .args .count) (c .before .before .before .before .fewer .result) (Level nan) (c .before .before .before .before .before .good .1 .0 .1 .0 .1) (c .before .before .before .before .fewer .ensures) (c .before .before .before .loop .bits) (c .before .before .before .loop .i) (c .before .before .before .loop .n) (c .low-bit .result) (c .before .before .before .loop .r) (c .before .before .loop-test .taken) (omega arith) (c .low-bit .ensures) (c .before .before .before .loop .inv .4))
+loop-again c = let e = low-few (c .before .before .before .loop .bits) (c .low-bit .result) (c .low-bit .ensures) in (omega arith, omega arith, length-set (c .before .before .before .loop .r) (c .before .before .before .loop .n) (getD (c .before .before .before .before .before .args .t2) (c .before .before .before .loop .i) (Level nan)) ∙ c .before .before .before .loop .inv .2, c .before .before .before .loop .inv .3, gather-turn (c .before .before .before .before .before .args .mask) (c .before .before .before .before .before .args .t2) (c .before .before .before .before .before .args .count) (c .before .before .before .before .least .result) (Level nan) (c .before .before .before .before .before .good .1 .0 .1 .0 .1) (c .before .before .before .before .least .ensures) (c .before .before .before .loop .bits) (c .before .before .before .loop .i) (c .before .before .before .loop .n) (c .low-bit .result) (c .before .before .before .loop .r) (c .before .before .loop-test .taken) (omega arith) (c .low-bit .ensures) (c .before .before .before .loop .inv .4))
 
 returns : tie.Need-returns Inv-loop μ-loop
-returns c = gather-end (c .before .before .before .args .mask) (c .before .before .before .args .t2) (c .before .before .before .args .count) (c .before .before .fewer .result) (Level nan) (c .before .before .before .good .1 .0 .1 .0 .1) (c .before .before .fewer .ensures) (c .before .loop .bits) (c .before .loop .i) (c .before .loop .n) (c .before .loop .r) (c .loop-test .left) (omega arith) (c .before .loop .inv .4)
+returns c = gather-end (c .before .before .before .args .mask) (c .before .before .before .args .t2) (c .before .before .before .args .count) (c .before .before .least .result) (Level nan) (c .before .before .before .good .1 .0 .1 .0 .1) (c .before .before .least .ensures) (c .before .loop .bits) (c .before .loop .i) (c .before .loop .n) (c .before .loop .r) (c .loop-test .left) (omega arith) (c .before .loop .inv .4)
 
 pub active-fields-spec : {M : Type 1} → statement M
 active-fields-spec =
@@ -58,7 +58,7 @@ active-fields-spec =
     (tie.spec
     Inv-loop
     μ-loop
-    fewer-requires
+    least-requires
     loop-holds
     mul-f
     array-copy-out-f

@@ -15,12 +15,12 @@ Inv-loop parameters nv list n m s₀ i₀ s i = (i ≤ m) × (m ≤ length list)
 abbrev μ-loop : tie.MeasureT-loop
 μ-loop parameters nv list n m s₀ i₀ s i = m - i
 
-fewer-requires : tie.Need-fewer-requires Inv-loop μ-loop
-fewer-requires c κs = search needs
+least-requires : tie.Need-least-requires Inv-loop μ-loop
+least-requires c κs = search needs
 
 loop-holds : tie.Need-loop-holds Inv-loop μ-loop
 unfolding lib.Ieee.ofBits lib.Ieee.neg
-loop-holds c = (omega arith, omega (arith, c .fewer .ensures), refl)
+loop-holds c = (omega arith, omega (arith, c .least .ensures), refl)
 
 mul-vertex-point : tie.Need-mul-vertex-point Inv-loop μ-loop
 mul-vertex-point c = search needs
@@ -41,13 +41,13 @@ loop-less : tie.Need-loop-less Inv-loop μ-loop
 loop-less c = search needs
 
 loop-again : tie.Need-loop-again Inv-loop μ-loop
-loop-again c = (omega arith, c .before .before .before .before .loop .inv .1, sum-turn (pointAt (pointsOf (c .before .before .before .before .before .before .before .before .args .nv) (c .before .before .before .before .before .before .before .before .args .parameters .now))) (c .before .before .before .before .before .before .before .before .args .list .now) (c .before .before .before .before .before .before .before .before .args .n) (c .before .before .before .before .before .fewer .result) (c .before .before .before .before .before .fewer .ensures) (c .before .before .before .before .loop .i) (c .before .before .before .before .loop .s) (c .add .result) (c .before .vertex-point .result) 0 (c .before .before .before .loop-test .taken) (c .before .vertex-point .ensures) (c .add .ensures) (c .before .before .before .before .loop .inv .2))
+loop-again c = (omega arith, c .before .before .before .before .loop .inv .1, sum-turn (pointAt (pointsOf (c .before .before .before .before .before .before .before .before .args .nv) (c .before .before .before .before .before .before .before .before .args .parameters .now))) (c .before .before .before .before .before .before .before .before .args .list .now) (c .before .before .before .before .before .before .before .before .args .n) (c .before .before .before .before .before .least .result) (c .before .before .before .before .before .least .ensures) (c .before .before .before .before .loop .i) (c .before .before .before .before .loop .s) (c .add .result) (c .before .vertex-point .result) 0 (c .before .before .before .loop-test .taken) (c .before .vertex-point .ensures) (c .add .ensures) (c .before .before .before .before .loop .inv .2))
 
 divide-requires : tie.Need-divide-requires Inv-loop μ-loop
-divide-requires c κs = omega (arith, c .before .before .fewer .ensures, c .before .before .before .before .before .pre)
+divide-requires c κs = omega (arith, c .before .before .least .ensures, c .before .before .before .before .before .pre)
 
 returns : tie.Need-returns Inv-loop μ-loop
-returns c = sum-end (pointAt (pointsOf (c .before .before .before .before .before .before .args .nv) (c .before .before .before .before .before .before .args .parameters .now))) (c .before .before .before .before .before .before .args .list .now) (c .before .before .before .before .before .before .args .n) (c .before .before .before .fewer .result) (c .before .before .before .fewer .ensures) (c .before .before .loop .i) (c .before .before .loop .s) (c .divide .result) (c .before .loop-test .left) (c .divide .ensures) (c .before .before .loop .inv .2)
+returns c = sum-end (pointAt (pointsOf (c .before .before .before .before .before .before .args .nv) (c .before .before .before .before .before .before .args .parameters .now))) (c .before .before .before .before .before .before .args .list .now) (c .before .before .before .before .before .before .args .n) (c .before .before .before .least .result) (c .before .before .before .least .ensures) (c .before .before .loop .i) (c .before .before .loop .s) (c .divide .result) (c .before .loop-test .left) (c .divide .ensures) (c .before .before .loop .inv .2)
 
 pub mean-of-spec : {M : Type 1} → statement M
 mean-of-spec =
@@ -55,7 +55,7 @@ mean-of-spec =
     (tie.spec
     Inv-loop
     μ-loop
-    fewer-requires
+    least-requires
     loop-holds
     mul-vertex-point
     shared-slice-read-vertex-point

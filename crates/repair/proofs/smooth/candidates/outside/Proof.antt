@@ -20,11 +20,11 @@ Inv-loop p count fields m i₀ i = (i ≤ m) × (m ≤ 8) × (outside p (drop i 
 abbrev μ-loop : tie.MeasureT-loop
 μ-loop p count fields m i₀ i = m - i
 
-fewer-requires : tie.Need-fewer-requires Inv-loop μ-loop
-fewer-requires c κs = search needs
+least-requires : tie.Need-least-requires Inv-loop μ-loop
+least-requires c κs = search needs
 
 loop-holds : tie.Need-loop-holds Inv-loop μ-loop
-loop-holds c = (omega arith, omega (arith, c .fewer .ensures), refl)
+loop-holds c = (omega arith, omega (arith, c .least .ensures), refl)
 
 mul-f : tie.Need-mul-f Inv-loop μ-loop
 mul-f c = search needs
@@ -37,7 +37,7 @@ value-requires c κs = search needs
 
 returns : tie.Need-returns Inv-loop μ-loop
 unfolding lib.Ieee.ofBits
-returns c = sym (any-found (λ f. lt e-9 (value f (c .before .before .before .before .before .before .args .p))) (c .before .before .before .before .before .before .args .t2) (c .before .before .before .before .before .before .args .count) (c .before .before .before .before .before .fewer .result) (Level nan) (few-long (c .before .before .before .before .before .before .args .t2) (c .before .before .before .before .before .before .args .count) (c .before .before .before .before .before .fewer .result) (c .before .before .before .before .before .before .good .1 .0 .1 .0 .1) (c .before .before .before .before .before .fewer .ensures)) (c .before .before .before .before .loop .i) (c .before .before .before .loop-test .taken) (c .before .before .before .before .loop .inv .2) (sym (ap (lt e-9) (c .before .value .ensures)) ∙ c .if1 .taken))
+returns c = sym (any-found (λ f. lt e-9 (value f (c .before .before .before .before .before .before .args .p))) (c .before .before .before .before .before .before .args .t2) (c .before .before .before .before .before .before .args .count) (c .before .before .before .before .before .least .result) (Level nan) (few-long (c .before .before .before .before .before .before .args .t2) (c .before .before .before .before .before .before .args .count) (c .before .before .before .before .before .least .result) (c .before .before .before .before .before .before .good .1 .0 .1 .0 .1) (c .before .before .before .before .before .least .ensures)) (c .before .before .before .before .loop .i) (c .before .before .before .loop-test .taken) (c .before .before .before .before .loop .inv .2) (sym (ap (lt e-9) (c .before .value .ensures)) ∙ c .if1 .taken))
 
 add-i : tie.Need-add-i Inv-loop μ-loop
 add-i c = search needs
@@ -47,10 +47,10 @@ loop-less c = search needs
 
 loop-again : tie.Need-loop-again Inv-loop μ-loop
 unfolding lib.Ieee.ofBits
-loop-again c = (omega arith, c .before .before .before .before .loop .inv .1, any-turn (λ f. lt e-9 (value f (c .before .before .before .before .before .before .args .p))) (c .before .before .before .before .before .before .args .t2) (c .before .before .before .before .before .before .args .count) (c .before .before .before .before .before .fewer .result) (Level nan) (few-long (c .before .before .before .before .before .before .args .t2) (c .before .before .before .before .before .before .args .count) (c .before .before .before .before .before .fewer .result) (c .before .before .before .before .before .before .good .1 .0 .1 .0 .1) (c .before .before .before .before .before .fewer .ensures)) (c .before .before .before .before .loop .i) (c .before .before .before .loop-test .taken) (c .before .before .before .before .loop .inv .2) (sym (ap (lt e-9) (c .before .value .ensures)) ∙ c .if1 .left))
+loop-again c = (omega arith, c .before .before .before .before .loop .inv .1, any-turn (λ f. lt e-9 (value f (c .before .before .before .before .before .before .args .p))) (c .before .before .before .before .before .before .args .t2) (c .before .before .before .before .before .before .args .count) (c .before .before .before .before .before .least .result) (Level nan) (few-long (c .before .before .before .before .before .before .args .t2) (c .before .before .before .before .before .before .args .count) (c .before .before .before .before .before .least .result) (c .before .before .before .before .before .before .good .1 .0 .1 .0 .1) (c .before .before .before .before .before .least .ensures)) (c .before .before .before .before .loop .i) (c .before .before .before .loop-test .taken) (c .before .before .before .before .loop .inv .2) (sym (ap (lt e-9) (c .before .value .ensures)) ∙ c .if1 .left))
 
 returns-2 : tie.Need-returns-2 Inv-loop μ-loop
-returns-2 c = sym (any-end (λ f. lt e-9 (value f (c .before .before .before .args .p))) (c .before .before .before .args .t2) (c .before .before .before .args .count) (c .before .before .fewer .result) (Level nan) (few-long (c .before .before .before .args .t2) (c .before .before .before .args .count) (c .before .before .fewer .result) (c .before .before .before .good .1 .0 .1 .0 .1) (c .before .before .fewer .ensures)) (c .before .loop .i) (c .loop-test .left) (c .before .loop .inv .2))
+returns-2 c = sym (any-end (λ f. lt e-9 (value f (c .before .before .before .args .p))) (c .before .before .before .args .t2) (c .before .before .before .args .count) (c .before .before .least .result) (Level nan) (few-long (c .before .before .before .args .t2) (c .before .before .before .args .count) (c .before .before .least .result) (c .before .before .before .good .1 .0 .1 .0 .1) (c .before .before .least .ensures)) (c .before .loop .i) (c .loop-test .left) (c .before .loop .inv .2))
 
 pub outside-spec : {M : Type 1} → statement M
 outside-spec =
@@ -58,7 +58,7 @@ outside-spec =
     (tie.spec
     Inv-loop
     μ-loop
-    fewer-requires
+    least-requires
     loop-holds
     mul-f
     array-copy-out-f

@@ -1,4 +1,4 @@
--- `mesh::manifold::list_edges` meets its contract. The invariant: the first j rows are written. Assumes nothing.
+-- `mesh::manifold::list_sides` meets its contract. The invariant: the first j rows are written. Assumes nothing.
 use mathlib.Core.Path.{_≡_, refl, ap, _∙_}
 use Prim.Native.Nat.{ℕ, _-_, _*_, _≤_}
 use native.Mathlib.Omega.{arith}
@@ -7,8 +7,8 @@ use Rattle.mesh.specs.inside.Manifold.{edgeRow, filled}
 use Rattle.mesh.proofs.Laws.Manifold.Fill.{fill-start}
 use Rattle.mesh.proofs.Laws.Manifold.Steps.{edges-turn}
 use borrow.Author.Needs.{needs}
-use Rattle.mesh.proofs.manifold.list_edges.Statement.{statement}
-use Rattle.mesh.proofs.manifold.list_edges.Tie as tie
+use Rattle.mesh.proofs.manifold.list_sides.Statement.{statement}
+use Rattle.mesh.proofs.manifold.list_sides.Tie as tie
 
 abbrev Inv-loop : tie.InvT-loop
 Inv-loop area₀ n m j₀ area j = (j ≤ 3 * n) × (length area ≡ length area₀) × (area ≡ filled (edgeRow area₀) 2 (3 * n) j area₀)
@@ -53,8 +53,8 @@ same-length c = c .before .loop .inv .1
 returns : tie.Need-returns Inv-loop μ-loop
 returns c = let a = (c .before .before .before .args) in let e : c .before .loop .j ≡ 3 * a .n = omega arith in c .before .loop .inv .2 ∙ ap (λ (j : ℕ). filled (edgeRow (a .area .now)) 2 (3 * a .n) j (a .area .now)) e
 
-pub list-edges-spec : {M : Type 1} → statement M
-list-edges-spec =
+pub list-sides-spec : {M : Type 1} → statement M
+list-sides-spec =
     tie.close
     (tie.spec
     Inv-loop

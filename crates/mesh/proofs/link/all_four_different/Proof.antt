@@ -1,4 +1,4 @@
--- `mesh::link::all_different` meets its contract. The invariant: what is left of the list from e on is the whole. Assumes nothing.
+-- `mesh::link::all_four_different` meets its contract. The invariant: what is left of the list from e on is the whole. Assumes nothing.
 use mathlib.Core.Path.{refl, sym, ap, _∙_}
 use Prim.Native.Nat.{_-_, _≤_}
 use native.Mathlib.Omega.{arith}
@@ -8,10 +8,10 @@ use Rattle.mesh.specs.Element.{verticesOf}
 use Rattle.mesh.proofs.Laws.Intake.Chains.{fails-by, holds-by}
 use Rattle.mesh.proofs.Laws.Intake.Every.{TetsLeft, tets-turn, tets-fail, tets-end}
 use borrow.Author.Needs.{needs}
-use Rattle.mesh.proofs.link.all_different.Statement.{statement}
-use Rattle.mesh.proofs.link.all_different.Tie as tie
-use Rattle.mesh.proofs.link.all_different.Reads as reads
-use Rattle.mesh.proofs.link.all_different.Lts as lts
+use Rattle.mesh.proofs.link.all_four_different.Statement.{statement}
+use Rattle.mesh.proofs.link.all_four_different.Tie as tie
+use Rattle.mesh.proofs.link.all_four_different.Reads as reads
+use Rattle.mesh.proofs.link.all_four_different.Lts as lts
 use Rattle.mesh.proofs.element.four_different.Reads as four-different-reads
 use Rattle.mesh.proofs.vertex.tet_at.Reads as tet-at-reads
 
@@ -45,8 +45,8 @@ loop-again c = (omega arith, tets-turn (λ t. nodup (verticesOf t)) (c .before .
 returns-2 : tie.Need-returns-2 Inv-loop μ-loop
 returns-2 c = sym (tets-end (λ t. nodup (verticesOf t)) (c .before .before .before .args .n) (c .before .before .before .args .area .now) (c .before .loop .e) (c .loop-test .left) (c .before .loop .inv .1))
 
-pub all-different-spec : {M : Type 1} → statement M
-all-different-spec =
+pub all-four-different-spec : {M : Type 1} → statement M
+all-four-different-spec =
     tie.close
     (tie.spec
     Inv-loop
