@@ -20,4 +20,3 @@ pub mod Intake
 pub mod Manifold
 pub mod Sort
 pub mod Surface
-pub mod Tests
