@@ -22,23 +22,7 @@ use Rattle.mesh.proofs.Laws.Link.Simplices.{rising}
 use Rattle.mesh.proofs.Laws.Link.Keys.{Fours, key-rising, face-nodup}
 use Rattle.mesh.proofs.Laws.Boundary.Same.{sort-every}
 use Rattle.repair.specs.Flip.{listedFaces, listedEdges}
-
--- ---- all pass
-
-module _ {A : Type 0} (p : A → Bool) (same : A → A → Bool) where
-  after-every : (x : A) (l : List A) → every p l ≡ true → every p (uniqueAfter same x l) ≡ true
-  unfolding uniqueAfter
-  after-every x [] h = refl
-  after-every x (y ∷ l) h = go (same x y) (after-every x l (and-snd (p y) (every p l) h)) (after-every y l (and-snd (p y) (every p l) h))
-    where
-      go : (t : Bool) → every p (uniqueAfter same x l) ≡ true → every p (uniqueAfter same y l) ≡ true → every p (cond t (uniqueAfter same x l) (y ∷ uniqueAfter same y l)) ≡ true
-      go true f g = f
-      go false f g = rw (and-fst (p y) (every p l) h) g
-
-  unique-every : (l : List A) → every p l ≡ true → every p (unique same l) ≡ true
-  unfolding unique
-  unique-every [] h = refl
-  unique-every (x ∷ l) h = rw (and-fst (p x) (every p l) h) (after-every x l (and-snd (p x) (every p l) h))
+use Rattle.repair.proofs.Laws.Improve.Edges.{every-unique}
 
 kept-fours : (μ : Measure) (ts : List Tet) → Fours ts → Fours (keep (isBad μ) ts)
 kept-fours μ ts d t m = d t (kept-elim (isBad μ) ts m .0)
@@ -70,7 +54,7 @@ keys-rise (t ∷ ts) d = rw (at₀, at₁, at₂, at₃) (keys-rise ts (λ u m. 
 pub faces-rise : (μ : Measure) (ts : List Tet) → Fours ts → every (λ f. rising (cornersOf f)) (listedFaces μ ts) ≡ true
 unfolding listedFaces
 faces-rise μ ts d =
-    unique-every (λ f. rising (cornersOf f)) sameTriple (sort leTriple (map keyOf (allFaces (keep (isBad μ) ts))))
+    every-unique (λ f. rising (cornersOf f)) sameTriple (sort leTriple (map keyOf (allFaces (keep (isBad μ) ts))))
     (sort-every (λ f. rising (cornersOf f)) leTriple (map keyOf (allFaces (keep (isBad μ) ts))) (keys-rise (keep (isBad μ) ts) (kept-fours μ ts d)))
 
 -- ---- edges
@@ -100,5 +84,5 @@ edges-differ (t ∷ ts) d =
 pub ends-differ : (μ : Measure) (ts : List Tet) → Fours ts → every (λ e. not (eqb (e .a) (e .b))) (listedEdges μ ts) ≡ true
 unfolding listedEdges
 ends-differ μ ts d =
-    unique-every proper-edge samePair (sort lePair (allEdges (keep (isBad μ) ts)))
+    every-unique proper-edge samePair (sort lePair (allEdges (keep (isBad μ) ts)))
     (sort-every proper-edge lePair (allEdges (keep (isBad μ) ts)) (edges-differ (keep (isBad μ) ts) (kept-fours μ ts d)))

@@ -15,6 +15,7 @@ use Rattle.mesh.specs.inside.Moves.{collapse, Step, collapses}
 use Rattle.mesh.specs.Feature.{onto, linkOk}
 use Rattle.mesh.specs.Element.{pair, verticesOf}
 use Rattle.mesh.proofs.Laws.Complex.Sets.{split, nope, clash, same, or-cases, or-left, or-right, out-head, out-tail}
+use Rattle.mesh.proofs.Laws.Complex.Tests.{nodup-true}
 use Rattle.mesh.proofs.Laws.Link.Keys.{Fours, proper-fours}
 use Rattle.mesh.proofs.Laws.Link.Labels.{onto-member, onto-other, onto-a}
 use Rattle.mesh.proofs.Laws.Link.Together.{linkOk-collapsible}
@@ -44,10 +45,6 @@ onto-into a b e o =
     same
     (λ h. elim (onto-cases a b b e h) [ inl q ↦ absurd (clash (q .0) o) | inr q ↦ q .1 ])
     (λ h. rw (onto-a a b) at (onto-member a b a e h))
-
-nodup-true : (e : List ℕ) → Nodup e → nodup e ≡ true
-nodup-true [] d = refl
-nodup-true (x ∷ e) d = rw (d .0, nodup-true e (d .1)) refl
 
 twice : (t : Bool) → (not t && not (t && false)) ≡ not (t && true)
 twice true = refl

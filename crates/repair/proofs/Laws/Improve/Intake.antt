@@ -16,7 +16,7 @@ use Rattle.mesh.specs.Boundary.{boundaryNumber}
 use Rattle.mesh.specs.Intake.{Given, tooMany, tooShort, optionsIn, fieldsIn, sizedPoint, inBox, wellNumbered, sameVertices, allDifferent, upright, intake}
 use Rattle.mesh.proofs.Laws.Complex.Sets.{clash, and-fst, and-snd, mem-here, mem-there, sub-intro, sub-elim}
 use Rattle.mesh.proofs.Laws.Link.Members.{every-elim, every-intro}
-use Rattle.mesh.proofs.Laws.Complex.Tests.{nodup-sound, under-sound}
+use Rattle.mesh.proofs.Laws.Complex.Tests.{nodup-sound, nodup-true, under-sound, under-true}
 
 pub record Passed (g : Given) : Type 0 where
   -- 10
@@ -116,21 +116,11 @@ passed-upright g p t m = every-elim (upright (g .points)) (g .elements) (p .stan
 
 -- ---- proper elements pass the tests again
 
--- a list without a vertex twice
-nodup-of : (e : List ℕ) → Nodup e → nodup e ≡ true
-nodup-of [] h = refl
-nodup-of (x ∷ xs) h = rw (h .0) (nodup-of xs (h .1))
-
--- all below n
-under-of : (n : ℕ) (e : List ℕ) → ((x : ℕ) → mem x e ≡ true → x < n) → under n e ≡ true
-under-of n [] h = refl
-under-of n (x ∷ xs) h = rw (lt-ltb x n (h x (mem-here x xs))) (under-of n xs (λ y m. h y (mem-there y x xs m)))
-
 -- 13
 pub proper-numbered : (n : ℕ) (ts : List Tet) → Proper n (map verticesOf ts) → every (wellNumbered n) ts ≡ true
 proper-numbered n [] h = refl
 proper-numbered n (t ∷ ts) h =
-    rw (under-of n (verticesOf t) (h .0 .below), nodup-of (verticesOf t) (h .0 .distinct)) (proper-numbered n ts (h .2))
+    rw (under-true n (verticesOf t) (h .0 .below), nodup-true (verticesOf t) (h .0 .distinct)) (proper-numbered n ts (h .2))
 
 -- 14
 pub proper-different : (n : ℕ) (ts : List Tet) → Proper n (map verticesOf ts) → allDifferent ts ≡ true

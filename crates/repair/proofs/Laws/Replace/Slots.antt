@@ -24,7 +24,7 @@ use Rattle.repair.specs.inside.Layout.{slotOk}
 use Rattle.repair.specs.inside.improve.Collapse.{slotAfter}
 use Rattle.repair.proofs.Laws.Improve.Collapse.{nodup-onto, merged, collapsed-merged}
 use Rattle.mesh.proofs.Laws.Complex.Collapse.{onto-cases}
-use Rattle.mesh.proofs.Laws.Complex.Tests.{nodup-sound, under-sound}
+use Rattle.mesh.proofs.Laws.Complex.Tests.{nodup-sound, under-sound, under-true}
 
 -- ---- a slot without a
 
@@ -95,10 +95,6 @@ pub ok-well : (nv : ℕ) (t : Tet) → wellNumbered nv t ≡ true → slotOk nv 
 unfolding slotOk
 ok-well nv t h = elim (split (every (eqb goneWord) (verticesOf t))) [ inl g ↦ rw g refl | inr g ↦ rw g h ]
 
-under-intro : (n : ℕ) (e : List ℕ) → ((x : ℕ) → mem x e ≡ true → x < n) → under n e ≡ true
-under-intro n [] h = refl
-under-intro n (y ∷ e) h = rw (lt-ltb y n (h y (mem-here y e))) (under-intro n e (λ x m. h x (mem-there x y e m)))
-
 module _ (nv : ℕ) (few : nv ≤ 4096) where
   -- an element is not gone
   pub well-there : (t : Tet) → wellNumbered nv t ≡ true → gone t ≡ false
@@ -135,7 +131,7 @@ module _ (nv : ℕ) (few : nv ≤ 4096) where
       where
         low : (t : Tet) → wellNumbered nv t ≡ true → under nv (verticesOf (imageOf (onto a b) t)) ≡ true
         low t g =
-            under-intro nv (verticesOf (imageOf (onto a b) t)) (λ v m.
+            under-true nv (verticesOf (imageOf (onto a b) t)) (λ v m.
             elim (onto-cases a b v (verticesOf t) m) [
               | inl q ↦ under-sound nv (verticesOf t) (and-fst (under nv (verticesOf t)) (nodup (verticesOf t)) g) v (q .0)
               | inr q ↦ subst (λ u. u < nv) (sym (q .0)) hb
