@@ -8,7 +8,7 @@ use lib.ListN.{getD, drop}
 use Rattle.mesh.specs.declared.element.Tet.{Tet}
 use Rattle.mesh.specs.declared.element.Triple.{Triple}
 use Rattle.mesh.specs.declared.element.Pair.{Pair}
-use Rattle.mesh.specs.Complex.{sub}
+use Rattle.mesh.specs.Complex.{mem, sub}
 
 abbrev pub pair : ℕ → ℕ → Pair
 pair a b = record { a = a; b = b }
@@ -52,6 +52,11 @@ unfoldable pub tets : ℕ → List ℕ → List Tet
 tets zero s = []
 tets (suc n) s = tet (getD s 0 0) (getD s 1 0) (getD s 2 0) (getD s 3 0) ∷ tets n (drop 4 s)
 
+-- the first n triples of a list of words, three words each; a word past the end counts as 0
+unfoldable pub triples : ℕ → List ℕ → List Triple
+triples zero s = []
+triples (suc n) s = triple (getD s 0 0) (getD s 1 0) (getD s 2 0) ∷ triples n (drop 3 s)
+
 -- the vertices of an element as a list
 abbrev pub verticesOf : Tet → List ℕ
 verticesOf t = t .a ∷ t .b ∷ t .c ∷ t .d ∷ []
@@ -81,6 +86,10 @@ samePair e f = eqb (e .a) (f .a) && eqb (e .b) (f .b)
 -- e no later than f by their numbers
 abbrev pub lePair : Pair → Pair → Bool
 lePair e f = cond (ltb (e .a) (f .a)) true (cond (ltb (f .a) (e .a)) false (leb (e .b) (f .b)))
+
+-- is v a vertex of the element
+abbrev pub has : ℕ → Tet → Bool
+has v t = mem v (verticesOf t)
 
 -- has the element all of these vertices
 abbrev pub hasAll : List ℕ → Tet → Bool

@@ -4,14 +4,14 @@ use Prim.Native.Nat.{ℕ, zero, suc, _-_, _*_}
 use mathlib.Core.Bool.{Bool, true, not, cond, _&&_}
 use mathlib.Core.List.{List, [], _∷_, _++_}
 use lib.Dec.{eqb, ltb, leb}
-use lib.ListN.{length, take, drop, getD}
+use lib.ListN.{length, take}
 use Rattle.mesh.specs.declared.element.Pair.{Pair}
 use Rattle.mesh.specs.declared.element.Triple.{Triple}
 use Rattle.mesh.specs.Words.{zeroWords}
 use Rattle.mesh.specs.Complex.{mem}
 use Rattle.mesh.specs.Tests.{every}
 use Rattle.mesh.specs.Sets.{times}
-use Rattle.mesh.specs.Element.{cornersOf, pair, triple, edge, samePair}
+use Rattle.mesh.specs.Element.{cornersOf, pair, triples, edge, samePair}
 
 -- the three edges of a triple
 abbrev pub sidesOf : Triple → List Pair
@@ -59,11 +59,6 @@ unfoldable pub nonmanifold : List Triple → Bool
 nonmanifold fs = not (edgesTwice fs && every (λ v. oneCycle (surfaceLink v fs)) (surfaceVertices fs))
 
 -- ---- within one area
-
--- the first n triples of a list of words, three words each; a word past the end counts as 0
-unfoldable pub triples : ℕ → List ℕ → List Triple
-triples zero s = []
-triples (suc n) s = triple (getD s 0 0) (getD s 1 0) (getD s 2 0) ∷ triples n (drop 3 s)
 
 -- at most 65,536 triples, 27 words for each, and a mark for each vertex number behind the first 15 n words
 unfoldable pub surfaceFits : ℕ → List ℕ → Bool

@@ -1,13 +1,11 @@
 -- A mesh on values, and what a pass gives (document 01, "Vertex", "Element and surface"). A vertex is a number; its
 -- parameters, point and mask are looked up, and a number past the end has the point 0 0 0 and the mask 0. Definitions only.
 use Prim.Native.Nat.{ℕ}
-use mathlib.Core.Bool.{Bool}
 use mathlib.Core.List.{List}
 use Rattle.geometry.specs.declared.point.Point.{Point}
 use Rattle.mesh.specs.declared.element.Triple.{Triple}
 use Rattle.mesh.specs.declared.element.Tet.{Tet}
-use Rattle.mesh.specs.Complex.{mem}
-use Rattle.mesh.specs.Element.{verticesOf}
+pub use Rattle.mesh.specs.Element.{has}
 
 pub record Mesh : Type 0 where
   pub parameters : List Point
@@ -20,7 +18,3 @@ pub record Mesh : Type 0 where
 pub data Result : Type 0 where
   made : ℕ → Mesh → Result
   refused : ℕ → Result
-
--- is v a vertex of the element
-abbrev pub has : ℕ → Tet → Bool
-has v t = mem v (verticesOf t)

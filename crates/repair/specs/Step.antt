@@ -1,12 +1,12 @@
 -- A call of a pass on whole buffers (document 01, "Runs of passes", "Where each number is given"): intake, the pass on values, and what the
 -- buffers hold afterwards. Then lists of calls. Definitions only.
-use Prim.Native.Nat.{ℕ, zero, suc, _+_}
+use Prim.Native.Nat.{ℕ, _+_}
 use mathlib.Core.Bool.{Bool, true, false, cond}
 use mathlib.Core.List.{List, [], _∷_, _++_}
 use mathlib.Core.Option.{Option, none, some}
 use lib.Dec.{eqb}
 use lib.Ieee.{Float}
-use lib.ListN.{length, take, drop, getD}
+use lib.ListN.{length, take, drop}
 use Rattle.geometry.specs.declared.point.Point.{Point}
 use Rattle.geometry.specs.declared.bounds.Options.{Options}
 use Rattle.geometry.specs.declared.field.Field.{Field}
@@ -14,7 +14,7 @@ use Rattle.mesh.specs.declared.element.Triple.{Triple}
 use Rattle.mesh.specs.declared.element.Tet.{Tet}
 use Rattle.mesh.specs.declared.intake.Sizes.{Sizes}
 use Rattle.mesh.specs.Words.{pointsOf}
-use Rattle.mesh.specs.Element.{triple, tets, verticesOf, cornersOf}
+use Rattle.mesh.specs.Element.{tets, triples, verticesOf, cornersOf}
 use Rattle.mesh.specs.declared.intake.Settings.{Settings}
 use Rattle.mesh.specs.declared.intake.Lengths.{Lengths}
 use Rattle.mesh.specs.Intake.{Given, intake}
@@ -88,11 +88,6 @@ sizesAfter (Refused number) z = z
 
 -- ---- buffers and values
 
--- the first n triples of a list of words, three words each
-unfoldable pub triplesOf : ℕ → List ℕ → List Triple
-triplesOf zero s = []
-triplesOf (suc n) s = triple (getD s 0 0) (getD s 1 0) (getD s 2 0) ∷ triplesOf n (drop 3 s)
-
 -- the mesh in the buffers
 unfoldable pub meshOf : State → Mesh
 meshOf s = record {
@@ -100,7 +95,7 @@ meshOf s = record {
   points = pointsOf (s .sizes .vertices) (s .points);
   masks = take (s .sizes .vertices) (s .masks);
   elements = tets (s .sizes .elements) (s .elements);
-  surface = triplesOf (s .sizes .triples) (s .surface);
+  surface = triples (s .sizes .triples) (s .surface);
 }
 
 -- the floats of points, and the words of elements and of triples

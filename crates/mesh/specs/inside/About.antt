@@ -10,9 +10,9 @@ use Rattle.mesh.specs.declared.element.Tet.{Tet}
 use Rattle.mesh.specs.declared.star.Index.{Index}
 use Rattle.mesh.specs.Words.{wordAt, inside, flat}
 use Rattle.mesh.specs.Complex.{keep}
-use Rattle.mesh.specs.Element.{tet, tets, verticesOf}
+use Rattle.mesh.specs.Element.{tet, tets, verticesOf, has}
 use Rattle.mesh.specs.inside.List.{gone}
-use Rattle.mesh.specs.inside.Star.{has, goneTet, gather, cornerAt, lengthOf, slotsMet, laid, roomFor, distinct, written, listed}
+use Rattle.mesh.specs.inside.Star.{goneTet, gather, cornerAt, lengthOf, slotsMet, laid, roomFor, distinct, written, listed}
 use Rattle.mesh.specs.Tests.{any}
 
 -- ---- by the scan

@@ -13,13 +13,9 @@ use Rattle.mesh.specs.declared.star.Index.{Index}
 use Rattle.mesh.specs.Words.{wordAt, inside}
 use Rattle.mesh.specs.Sort.{sort, unique}
 use Rattle.mesh.specs.Complex.{mem, keep, Nodup}
-use Rattle.mesh.specs.Element.{tet, verticesOf}
+use Rattle.mesh.specs.Element.{tet, verticesOf, has}
 
 -- ---- by the scan
-
--- does the element have the vertex
-abbrev pub has : ℕ → Tet → Bool
-has v t = mem v (verticesOf t)
 
 -- the numbers of the elements that have v or w, where the first is number i
 unfoldable pub starFrom : ℕ → ℕ → ℕ → List Tet → List ℕ

@@ -12,8 +12,8 @@ use Rattle.mesh.specs.declared.element.Tet.{Tet}
 use Rattle.mesh.specs.declared.star.Index.{Index}
 use Rattle.mesh.specs.Words.{wordAt}
 use Rattle.mesh.specs.Complex.{mem}
-use Rattle.mesh.specs.Element.{tets}
-use Rattle.mesh.specs.inside.Star.{has, goneTet, gather, lengthOf, slotsMet, Complete, Laid, Free, roomFor, distinct, written, listed}
+use Rattle.mesh.specs.Element.{tets, has}
+use Rattle.mesh.specs.inside.Star.{goneTet, gather, lengthOf, slotsMet, Complete, Laid, Free, roomFor, distinct, written, listed}
 use Rattle.mesh.specs.inside.About.{hasOne, starAll, members, clearOf, entriesOf, slotsOf, aboutRoom, aboutList, aboutIn}
 use Rattle.mesh.proofs.Laws.Bools.{and-intro, and-left, and-right}
 use Rattle.mesh.proofs.Laws.Complex.Sets.{same, or-cases}

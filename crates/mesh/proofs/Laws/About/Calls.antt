@@ -12,8 +12,8 @@ use Rattle.mesh.specs.declared.element.Tet.{Tet}
 use Rattle.mesh.specs.declared.star.Index.{Index}
 use Rattle.mesh.specs.Words.{wordAt}
 use Rattle.mesh.specs.Complex.{mem, keep}
-use Rattle.mesh.specs.Element.{tets}
-use Rattle.mesh.specs.inside.Star.{has, starOf, goneTet, Laid, written}
+use Rattle.mesh.specs.Element.{tets, has}
+use Rattle.mesh.specs.inside.Star.{starOf, goneTet, Laid, written}
 use Rattle.mesh.specs.inside.About.{hasOne, starAll, members, slotAt, wordsOf, spaceFor, elementsIn, live, liveRoom, liveList, liveIn}
 use Rattle.mesh.proofs.Laws.Complex.Sets.{mem-here, mem-there}
 use Rattle.mesh.proofs.Laws.Euler.Areas.{tets-flat}

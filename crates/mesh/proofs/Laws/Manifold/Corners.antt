@@ -18,8 +18,8 @@ use Rattle.mesh.specs.inside.Rows.{leRow, eqRow}
 use Rattle.mesh.specs.Complex.{keep}
 use Rattle.mesh.specs.Tests.{every}
 use Rattle.mesh.specs.Sets.{times}
-use Rattle.mesh.specs.Element.{triple, samePair}
-use Rattle.mesh.specs.Manifold.{sidesOf, surfaceEdges, edgesTwice, surfaceLink, oneCycle, surfaceVertices, triples}
+use Rattle.mesh.specs.Element.{triple, samePair, triples}
+use Rattle.mesh.specs.Manifold.{sidesOf, surfaceEdges, edgesTwice, surfaceLink, oneCycle, surfaceVertices}
 use Rattle.mesh.proofs.Laws.Bools.{split, clash, and-intro, and-left, and-right}
 use Rattle.mesh.proofs.Laws.NumbersFrom.{every-numbers}
 use Rattle.mesh.proofs.Laws.Rows.{eqRow-sound}

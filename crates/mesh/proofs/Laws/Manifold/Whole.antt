@@ -13,9 +13,9 @@ use Rattle.mesh.specs.Words.{wordAt, zeroWords, numbers, flat}
 use Rattle.mesh.specs.Sort.{sort}
 use Rattle.mesh.specs.inside.Rows.{rows, leRow, sortedArea}
 use Rattle.mesh.specs.Tests.{every}
-use Rattle.mesh.specs.Element.{cornersOf}
+use Rattle.mesh.specs.Element.{cornersOf, triples}
 use Rattle.mesh.specs.inside.Group.{runs, sameFirst}
-use Rattle.mesh.specs.Manifold.{edgesTwice, surfaceLink, oneCycle, surfaceVertices, nonmanifold, triples, surfaceFits, Tested, nonmanifoldIn}
+use Rattle.mesh.specs.Manifold.{edgesTwice, surfaceLink, oneCycle, surfaceVertices, nonmanifold, surfaceFits, Tested, nonmanifoldIn}
 use Rattle.mesh.specs.inside.Manifold.{edgeRow, linkRow, filled, two, cycle, linkPair, pairBelow, KeptBelow, LinkArea}
 use Rattle.mesh.proofs.Laws.Bools.{and-intro, and-left, and-right}
 use Rattle.mesh.proofs.Laws.Manifold.Fill.{fill-kept, filled-rows}

@@ -12,8 +12,8 @@ use borrow.Author.Tests.{eqb-true, eqb-false, eq-eqb}
 use Rattle.mesh.specs.declared.element.Tet.{Tet}
 use Rattle.mesh.specs.declared.star.Index.{Index}
 use Rattle.mesh.specs.Complex.{mem}
-use Rattle.mesh.specs.Element.{tets, verticesOf}
-use Rattle.mesh.specs.inside.Star.{has, starOf, goneTet, butFor, othersOf, neighboursOf, gather, cornerAt, cornersAt, lengthOf, chainOf, slotIf, othersIf, Indexed, Chains, Laid, second, slotsMet, slotsAbout, starRoom, starList, othersMet, neighbourRoom, neighbourList}
+use Rattle.mesh.specs.Element.{tets, verticesOf, has}
+use Rattle.mesh.specs.inside.Star.{starOf, goneTet, butFor, othersOf, neighboursOf, gather, cornerAt, cornersAt, lengthOf, chainOf, slotIf, othersIf, Indexed, Chains, Laid, second, slotsMet, slotsAbout, starRoom, starList, othersMet, neighbourRoom, neighbourList}
 use Rattle.mesh.proofs.Laws.Complex.Sets.{split, same, or-cases, or-left, or-right, mem-here, mem-there, mem-cases, mem-nil}
 use Rattle.mesh.proofs.Laws.Star.Layout.{room-yes}
 use Rattle.mesh.proofs.Laws.Star.Chains.{mem-left, mem-right, mem-either, length-none, chain-none, one-short, two-short}

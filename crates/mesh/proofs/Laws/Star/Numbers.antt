@@ -12,7 +12,8 @@ use borrow.Author.Tests.{lt-leb}
 use Rattle.mesh.specs.declared.element.Tet.{Tet}
 use Rattle.mesh.specs.inside.Sort.{before, headed, ordered}
 use Rattle.mesh.specs.Complex.{mem, keep}
-use Rattle.mesh.specs.inside.Star.{has, starFrom}
+use Rattle.mesh.specs.Element.{has}
+use Rattle.mesh.specs.inside.Star.{starFrom}
 use Rattle.mesh.specs.inside.About.{passFrom}
 use Rattle.mesh.specs.Tests.{any}
 use Rattle.mesh.proofs.Laws.Bools.{split, and-intro}

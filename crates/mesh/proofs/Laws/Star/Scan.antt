@@ -14,8 +14,8 @@ use Rattle.mesh.specs.declared.element.Tet.{Tet}
 use Rattle.mesh.specs.Words.{wordAt}
 use Rattle.mesh.specs.inside.Sort.{before, ordered}
 use Rattle.mesh.specs.Complex.{mem, Nodup}
-use Rattle.mesh.specs.Element.{tets, verticesOf}
-use Rattle.mesh.specs.inside.Star.{has, starFrom, starOf, goneWord, goneTet, butFor, othersOf, neighboursOf}
+use Rattle.mesh.specs.Element.{tets, verticesOf, has}
+use Rattle.mesh.specs.inside.Star.{starFrom, starOf, goneWord, goneTet, butFor, othersOf, neighboursOf}
 use Rattle.mesh.proofs.Laws.Complex.Sets.{clash, nope, and-fst, and-snd, mem-nil, keep-mem}
 use Rattle.mesh.proofs.Laws.Star.Chains.{mem-left, mem-right, mem-either}
 use Rattle.mesh.proofs.Laws.Star.Numbers.{star-passes, pass-out, pass-in, pass-rising}

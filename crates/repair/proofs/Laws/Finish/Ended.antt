@@ -16,11 +16,11 @@ use Rattle.mesh.specs.declared.boundary.Outcome.{Outcome}
 use Rattle.mesh.specs.declared.boundary.Outcome.the-variants.{Surface, Refused}
 use Rattle.mesh.specs.Words.{zeroWords, flat}
 use Rattle.mesh.specs.Tests.{every}
-use Rattle.mesh.specs.Element.{tets, cornersOf}
+use Rattle.mesh.specs.Element.{tets, cornersOf, triples}
 use Rattle.mesh.specs.Boundary.{boundaryNumber, boundaryOf}
 use Rattle.mesh.specs.Surface.{triplesOf, answer, answerOf, surfaceWords}
 use Rattle.mesh.specs.inside.Surface.{Filled, areaAfter, boundaryIn}
-use Rattle.mesh.specs.Manifold.{nonmanifold, triples, surfaceVertices, surfaceFits, Tested, nonmanifoldIn}
+use Rattle.mesh.specs.Manifold.{nonmanifold, surfaceVertices, surfaceFits, Tested, nonmanifoldIn}
 use Rattle.mesh.proofs.Laws.Complex.Sets.{split}
 use Rattle.mesh.proofs.Laws.Boundary.Faces.{tets-kept}
 use Rattle.mesh.proofs.Laws.Boundary.Whole.{words-count, triples-few, area-front, area-behind, area-long, filled-is}

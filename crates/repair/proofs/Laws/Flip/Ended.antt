@@ -15,11 +15,10 @@ use Rattle.mesh.specs.declared.element.Triple.{Triple}
 use Rattle.mesh.specs.declared.boundary.Outcome.{Outcome}
 use Rattle.mesh.specs.declared.boundary.Outcome.the-variants.{Surface, Refused}
 use Rattle.mesh.specs.Words.{zeroWords}
-use Rattle.mesh.specs.Element.{tets}
+use Rattle.mesh.specs.Element.{tets, triples}
 use Rattle.mesh.specs.Boundary.{boundaryNumber, boundaryOf}
 use Rattle.mesh.specs.Surface.{triplesOf, answer, answerOf, surfaceWords}
 use Rattle.mesh.specs.inside.Surface.{areaFits, Filled, areaAfter, boundaryIn}
-use Rattle.mesh.specs.Manifold.{triples}
 use Rattle.mesh.proofs.Laws.Complex.Sets.{split}
 use Rattle.mesh.proofs.Laws.Parts.{part-same}
 use Rattle.mesh.proofs.Laws.Boundary.Faces.{tets-kept}

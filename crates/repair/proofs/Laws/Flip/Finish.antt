@@ -12,9 +12,8 @@ use Rattle.mesh.specs.declared.element.Tet.{Tet}
 use Rattle.mesh.specs.declared.element.Triple.{Triple}
 use Rattle.mesh.specs.declared.boundary.Outcome.{Outcome}
 use Rattle.mesh.specs.declared.boundary.Outcome.the-variants.{Surface, Refused}
-use Rattle.mesh.specs.Element.{tets}
+use Rattle.mesh.specs.Element.{tets, triples}
 use Rattle.mesh.specs.Boundary.{boundaryNumber, boundaryOf}
-use Rattle.mesh.specs.Manifold.{triples}
 use Rattle.mesh.proofs.Laws.Complex.Sets.{split}
 use Rattle.repair.specs.declared.answer.Answer.{Answer}
 use Rattle.repair.specs.declared.answer.Answer.the-variants as answers

@@ -15,9 +15,8 @@ use Rattle.mesh.specs.declared.element.Triple.{Triple}
 use Rattle.mesh.specs.Words.{wordAt, flat}
 use Rattle.mesh.specs.Sort.{sort}
 use Rattle.mesh.specs.inside.Rows.{rows, leRow, fitRows, sortedArea}
-use Rattle.mesh.specs.Element.{keyOf, cornersOf}
+use Rattle.mesh.specs.Element.{keyOf, cornersOf, triples}
 use Rattle.mesh.specs.Boundary.{sameTriple, leTriple}
-use Rattle.mesh.specs.Manifold.{triples}
 use Rattle.mesh.proofs.Laws.Parts.{side}
 use Rattle.mesh.proofs.Laws.Areas.{length-sorted}
 use Rattle.mesh.proofs.Laws.Boundary.Order.{sort-corners}

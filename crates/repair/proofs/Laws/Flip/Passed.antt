@@ -3,18 +3,17 @@
 use mathlib.Core.Path.{_≡_, refl, sym, ap, _∙_}
 use mathlib.Core.Logic.{inl, inr}
 use mathlib.Core.Bool.{cond}
-use mathlib.Core.List.{List, _∷_}
-use Prim.Native.Nat.{ℕ, zero, suc, _*_, _≤_}
+use mathlib.Core.List.{List}
+use Prim.Native.Nat.{ℕ, _*_, _≤_}
 use lib.Dec.{eqb}
 use lib.Ieee.{Float}
-use lib.ListN.{length, take, drop, getD}
+use lib.ListN.{length, take}
 use Rattle.geometry.specs.declared.bounds.Options.{Options}
 use Rattle.mesh.specs.declared.element.Triple.{Triple}
 use Rattle.mesh.specs.declared.element.Tet.{Tet}
 use Rattle.mesh.specs.Words.{zeroWords, pointsOf}
-use Rattle.mesh.specs.Element.{triple}
+use Rattle.mesh.specs.Element.{triples}
 use Rattle.mesh.specs.Boundary.{boundaryOf}
-use Rattle.mesh.specs.Manifold.{triples}
 use Rattle.mesh.specs.Intake.{intake}
 use Rattle.mesh.proofs.Laws.Complex.Sets.{split}
 use Rattle.mesh.proofs.Laws.Intake.Reads.{length-points}
@@ -22,7 +21,7 @@ use Rattle.repair.specs.declared.answer.Answer.{Answer}
 use Rattle.repair.specs.declared.answer.Answer.the-variants.{Done}
 use Rattle.repair.specs.Mesh.{Mesh, made, refused}
 use Rattle.repair.specs.Flip as def
-use Rattle.repair.specs.Step.{State, Call, Pass, sizesAfter, triplesOf, meshOf, floatsOf, elementWords, tripleWords, over, committed, resultOf, finish}
+use Rattle.repair.specs.Step.{State, Call, Pass, sizesAfter, meshOf, floatsOf, elementWords, tripleWords, over, committed, resultOf, finish}
 use Rattle.repair.specs.inside.improve.Fitting.{Fitting}
 use Rattle.repair.specs.inside.flip.Finish.{flipEnd}
 use Rattle.repair.specs.inside.flip.Fitting.{FlipFitting, flipLast, flipWhole}
@@ -52,12 +51,6 @@ unfolding resultOf
 flip-result c s e = rw e refl
 
 -- ---- the buffers afterwards
-
--- the given surface, by both ways of reading it
-triples-same : (k : ℕ) (l : List ℕ) → triples k l ≡ triplesOf k l
-unfolding triples triplesOf
-triples-same zero l = refl
-triples-same (suc k) l = ap (λ (fs : List Triple). triple (getD l 0 0) (getD l 1 0) (getD l 2 0) ∷ fs) (triples-same k (drop 3 l))
 
 -- an answer beside all buffers, where two of them changed
 abbrev pub placed : State → Answer → List ℕ → List ℕ → Answer × State
@@ -115,6 +108,4 @@ module _ (o : Options) (s : State) (work : List ℕ) (floats : ℕ) (fit : Fitti
   unfolding flipWhole def.flip def.flipBy meshOf with-elements
   flip-finished a es ss h =
       let l = flipLast (s .sizes) (s .points) (s .elements) in
-      ap spread h
-      ∙ ap (λ (fs : List Triple). spread (flipEnd (l .flips) (s .sizes .vertices) fs (def.live (l .slots)) (s .elements) (s .surface))) (triples-same (s .sizes .triples) (s .surface))
-      ∙ ended (l .flips) (triplesOf (s .sizes .triples) (s .surface)) (def.live (l .slots))
+      ap spread h ∙ ended (l .flips) (triples (s .sizes .triples) (s .surface)) (def.live (l .slots))

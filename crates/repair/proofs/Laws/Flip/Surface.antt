@@ -11,9 +11,8 @@ use lib.Seq.{getD-take, getD-drop, paste}
 use Rattle.mesh.specs.declared.element.Triple.{Triple}
 use Rattle.mesh.specs.Words.{wordAt, inside, copied}
 use Rattle.mesh.specs.Sort.{sort}
-use Rattle.mesh.specs.Element.{keyOf}
+use Rattle.mesh.specs.Element.{keyOf, triples}
 use Rattle.mesh.specs.Boundary.{sameTriple, leTriple}
-use Rattle.mesh.specs.Manifold.{triples}
 use Rattle.mesh.proofs.Laws.Bools.{split, clash}
 use Rattle.mesh.proofs.Laws.Complex.Sets.{and-snd}
 use Rattle.mesh.proofs.Laws.Parts.{paste-off, paste-part, into-is, length-copied}

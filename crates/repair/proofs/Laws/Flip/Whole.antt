@@ -20,9 +20,8 @@ use Rattle.mesh.specs.declared.star.Index.{Index}
 use Rattle.mesh.specs.Words.{pointsOf}
 use Rattle.mesh.specs.inside.Rows.{rows}
 use Rattle.mesh.specs.Tests.{every}
-use Rattle.mesh.specs.Element.{tets}
+use Rattle.mesh.specs.Element.{tets, triples}
 use Rattle.mesh.specs.inside.Surface.{areaFits}
-use Rattle.mesh.specs.Manifold.{triples}
 use Rattle.mesh.specs.Intake.{wellNumbered}
 use Rattle.mesh.specs.inside.Shared.{sharedRow, sharedFaces}
 use Rattle.mesh.specs.inside.About as about

@@ -12,14 +12,14 @@ use Rattle.mesh.specs.declared.element.Tet.{Tet}
 use Rattle.mesh.specs.declared.element.Triple.{Triple}
 use Rattle.mesh.specs.Words.{pointsOf}
 use Rattle.mesh.specs.Complex.{alternating}
-use Rattle.mesh.specs.Element.{tets, verticesOf, keyOf}
+use Rattle.mesh.specs.Element.{tets, verticesOf, keyOf, triples}
 use Rattle.mesh.specs.Boundary.{allFaces, withKey}
 use Rattle.mesh.specs.declared.intake.Lengths.{Lengths}
 use Rattle.mesh.specs.Tests.{every}
 use Rattle.mesh.specs.Intake.{wellNumbered, allDifferent, intake}
 use Rattle.mesh.specs.Measure.{determinantOf, scoreOf}
 use Rattle.repair.specs.Mesh.{Mesh}
-use Rattle.repair.specs.Step.{State, Call, triplesOf, meshOf, floatsOf, elementWords, tripleWords, committed, given}
+use Rattle.repair.specs.Step.{State, Call, meshOf, floatsOf, elementWords, tripleWords, committed, given}
 use Rattle.repair.specs.Wholeness.{OneOrTwo, Exact, Whole}
 use Rattle.repair.proofs.Laws.Improve.Scores.{Floor}
 use Rattle.repair.proofs.Laws.Improve.Keeps.{Sound, Keeps, floorUnits}
@@ -38,8 +38,8 @@ unfolding tets elementWords
 elements-back [] rest = refl
 elements-back (t ∷ ts) rest = ap (λ l. t ∷ l) (elements-back ts rest)
 
-pub triples-back : (fs : List Triple) (rest : List ℕ) → triplesOf (length fs) (tripleWords fs ++ rest) ≡ fs
-unfolding triplesOf tripleWords
+pub triples-back : (fs : List Triple) (rest : List ℕ) → triples (length fs) (tripleWords fs ++ rest) ≡ fs
+unfolding triples tripleWords
 triples-back [] rest = refl
 triples-back (f ∷ fs) rest = ap (λ l. f ∷ l) (triples-back fs rest)
 

@@ -20,7 +20,7 @@ use Rattle.mesh.specs.declared.intake.Settings.{Settings}
 use Rattle.mesh.specs.declared.star.Index.{Index}
 use Rattle.mesh.specs.Words.{pointsOf, zeroWords}
 use Rattle.mesh.specs.Tests.{every}
-use Rattle.mesh.specs.Element.{tets}
+use Rattle.mesh.specs.Element.{tets, triples}
 use Rattle.mesh.specs.Group.{groups}
 use Rattle.mesh.specs.Intake.{wellNumbered, givenOf, intake}
 use Rattle.mesh.specs.Measure.{measure, lowestOf}
@@ -32,8 +32,9 @@ use Rattle.repair.specs.Mesh.{Mesh, made, refused}
 use Rattle.repair.specs.Smooth as Smooth
 use Rattle.repair.specs.Smooth.{aboutGroup, bestFor, taken, smoothGroup, smoothGroups}
 use Rattle.repair.specs.Step as Step
-use Rattle.repair.specs.Step.{Call, Pass, held, callOf, triplesOf, meshOf, floatsOf, elementWords, tripleWords, over, committed, given, lengthsOf, resultOf, step}
+use Rattle.repair.specs.Step.{Call, Pass, held, callOf, meshOf, floatsOf, elementWords, tripleWords, over, committed, given, lengthsOf, resultOf, step}
 use Rattle.repair.specs.inside.smooth.Site.{stateOf, Turned, meshRead, meshFor}
+use Rattle.repair.proofs.Laws.Flip.Keys.{length-triples}
 use Rattle.repair.proofs.Laws.Improve.Intake.{Passed, intake-passed}
 use Rattle.repair.proofs.Laws.Lengths.{LongEnough, long-enough}
 
@@ -60,8 +61,8 @@ elements-front (suc n) (a ∷ b ∷ c ∷ d ∷ s) h =
     let e : 4 * suc n ≡ suc (suc (suc (suc (4 * n)))) = omega arith in
     ap (λ (l : List ℕ). a ∷ b ∷ c ∷ d ∷ l) (elements-front n s (omega (arith, h))) ∙ sym (ap (λ k. take k (a ∷ b ∷ c ∷ d ∷ s)) e)
 
-triples-front : (n : ℕ) (s : List ℕ) → 3 * n ≤ length s → tripleWords (triplesOf n s) ≡ take (3 * n) s
-unfolding triplesOf tripleWords
+triples-front : (n : ℕ) (s : List ℕ) → 3 * n ≤ length s → tripleWords (triples n s) ≡ take (3 * n) s
+unfolding triples tripleWords
 triples-front zero s h = refl
 triples-front (suc n) [] h = absurd (omega (arith, h))
 triples-front (suc n) (a ∷ []) h = absurd (omega (arith, h))
@@ -69,11 +70,6 @@ triples-front (suc n) (a ∷ b ∷ []) h = absurd (omega (arith, h))
 triples-front (suc n) (a ∷ b ∷ c ∷ s) h =
     let e : 3 * suc n ≡ suc (suc (suc (3 * n))) = omega arith in
     ap (λ (l : List ℕ). a ∷ b ∷ c ∷ l) (triples-front n s (omega (arith, h))) ∙ sym (ap (λ k. take k (a ∷ b ∷ c ∷ s)) e)
-
-length-triples : (n : ℕ) (s : List ℕ) → length (triplesOf n s) ≡ n
-unfolding triplesOf
-length-triples zero s = refl
-length-triples (suc n) s = ap suc (length-triples n (drop 3 s))
 
 -- a front put over a buffer that is the same behind it
 pub over-is : {A : Type 0} (front old new : List A) (k : ℕ) → k ≤ length new → front ≡ take k new → drop k new ≡ drop k old → over front old ≡ new
@@ -189,7 +185,7 @@ module _ (s : Settings) (fields : List Field) (R : Option (List ℕ)) (P Q : Lis
 
         result-is : Smooth.smooth (s .options) F R m ≡ made moved result
         unfolding Smooth.smooth result nv m F meshOf
-        result-is = ap (λ (u : Smooth.State). made (u .moved) (record { parameters = u .parameters; points = u .points; masks = take (s .sizes .vertices) masks; elements = tets (s .sizes .elements) els; surface = triplesOf (s .sizes .triples) surface })) (sym (T′ .state))
+        result-is = ap (λ (u : Smooth.State). made (u .moved) (record { parameters = u .parameters; points = u .points; masks = take (s .sizes .vertices) masks; elements = tets (s .sizes .elements) els; surface = triples (s .sizes .triples) surface })) (sym (T′ .state))
 
         sizes-are : Step.sizesOf result ≡ s .sizes
         unfolding result nv m meshOf
@@ -208,7 +204,7 @@ module _ (s : Settings) (fields : List Field) (R : Option (List ℕ)) (P Q : Lis
             let e₁ : 4 * s .sizes .elements ≤ length els = omega (arith, f .slots) in
             let e₂ : 3 * s .sizes .triples ≤ length surface = omega (arith, f .triples, f .surface) in
             let d = over-is (elementWords (tets (s .sizes .elements) els)) els els (4 * s .sizes .elements) e₁ (elements-front (s .sizes .elements) els e₁) refl in
-            let g = over-is (tripleWords (triplesOf (s .sizes .triples) surface)) surface surface (3 * s .sizes .triples) e₂ (triples-front (s .sizes .triples) surface e₂) refl in
+            let g = over-is (tripleWords (triples (s .sizes .triples) surface)) surface surface (3 * s .sizes .triples) e₂ (triples-front (s .sizes .triples) surface e₂) refl in
             λ j. record { parameters = a j; points = b j; masks = c j; elements = d j; surface = g j; sizes = sizes-are j }
 
         pub pass-done : _≡_ {A = Answer × Step.State} (Done moved (s .sizes), buffers P′ Q′) (step call (buffers P Q))

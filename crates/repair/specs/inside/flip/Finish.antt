@@ -9,11 +9,10 @@ use Rattle.mesh.specs.declared.element.Tet.{Tet}
 use Rattle.mesh.specs.declared.element.Triple.{Triple}
 use Rattle.mesh.specs.declared.boundary.Outcome.{Outcome}
 use Rattle.mesh.specs.declared.boundary.Outcome.the-variants.{Surface, Refused}
-use Rattle.mesh.specs.Element.{tets}
+use Rattle.mesh.specs.Element.{tets, triples}
 use Rattle.mesh.specs.Boundary.{boundaryOf}
 use Rattle.mesh.specs.Surface.{answer}
 use Rattle.mesh.specs.inside.Surface.{areaFits}
-use Rattle.mesh.specs.Manifold.{triples}
 use Rattle.repair.specs.Flip.{sortedKeys, sameTriples, endNumber}
 use Rattle.repair.specs.Step.{elementWords, tripleWords, over}
 use Rattle.repair.specs.declared.answer.Answer.{Answer}

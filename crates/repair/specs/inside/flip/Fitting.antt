@@ -9,8 +9,7 @@ use lib.ListN.{length}
 use Rattle.mesh.specs.declared.intake.Sizes.{Sizes}
 use Rattle.mesh.specs.Words.{pointsOf}
 use Rattle.mesh.specs.Tests.{every}
-use Rattle.mesh.specs.Element.{tets}
-use Rattle.mesh.specs.Manifold.{triples}
+use Rattle.mesh.specs.Element.{tets, triples}
 use Rattle.mesh.specs.Intake.{wellNumbered}
 use Rattle.mesh.specs.Measure.{measure}
 use Rattle.repair.specs.declared.answer.Answer.{Answer}
