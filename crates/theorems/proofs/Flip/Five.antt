@@ -17,7 +17,7 @@ use Rattle.mesh.proofs.Laws.Complex.Sets.{split, clash, nope, same, and-snd, me
 use Rattle.mesh.proofs.Laws.Complex.Sums.{bit}
 use Rattle.mesh.proofs.Laws.Complex.Flip.{two-of, three-of, proper2, proper3, flip23-proper, flip32-proper}
 use Rattle.mesh.proofs.Laws.Link.Closed.{AtMostTwo}
-use Rattle.mesh.proofs.Laws.Link.Keys.{keep-cons}
+use Rattle.mesh.proofs.Laws.Link.Keys.{keep-cons, bit-not}
 use Rattle.mesh.proofs.Laws.Link.Order.{star-complex}
 use Rattle.repair.proofs.Laws.Flip.Triangles.{star-cons, star-append}
 use Rattle.repair.proofs.Laws.Flip.Replace.{OneFlip, two-to-three, three-to-two}
@@ -31,10 +31,6 @@ SameBoundary es fs = (τ : List ℕ) → length τ ≡ 3 → Nodup τ → eqb (s
 ruleset named = (eqb-same, or-true)
 
 -- ---- the elements of five vertices
-
-bit-not : (p : Bool) → bit p + bit (not p) ≡ 1
-bit-not true = refl
-bit-not false = refl
 
 module _ (a b u v w : ℕ) (d : Nodup (a ∷ b ∷ u ∷ v ∷ w ∷ [])) (τ : List ℕ) (l : length τ ≡ 3) (n : Nodup τ) where
   abbrev five : List ℕ

@@ -34,22 +34,16 @@ use Rattle.repair.proofs.Laws.Smooth.Scores.{AllNear, score-exact, lowest-one, 
 use Rattle.repair.proofs.Laws.Flip.Slots.{Aged, aged-start, live-some}
 use Rattle.repair.proofs.Laws.Flip.Replace.{Held, Chain, OneFlip, elementsOf}
 use Rattle.repair.proofs.Laws.Flip.Listed.{faces-rise, ends-differ}
+use Rattle.repair.proofs.Laws.Flip.Pass.{chain-none}
 use Rattle.repair.proofs.Laws.Flip.Face.{face-held, face-aged}
 use Rattle.repair.proofs.Laws.Flip.Edge.{edge-held}
 use Rattle.theorems.proofs.Flip.Five.{SameBoundary, flip-boundary}
 
 -- ---- one flip or none
 
-none-made : {es fs : List (List ℕ)} {n : ℕ} → Chain es n fs → n ≡ 0 → fs ≡ es
-none-made (Chain.start z e) h = e
-none-made (Chain.then {k = k} r f z) h = absurd (more k (sym z ∙ h))
-  where
-    more : (k : ℕ) → k + 1 ≡ 0 → ⊥
-    more k e = omega arith
-
 one-made : (n : ℕ) {es fs : List (List ℕ)} {k : ℕ} → Proper n es → Proper n fs → AtMostTwo es → AtMostTwo fs → Chain es k fs → k ≤ 1 → SameBoundary es fs
 one-made n P Q few few′ (Chain.start z e) h = λ τ l d. ap (λ gs. eqb (star τ gs) 1) (sym e)
-one-made n {es} {fs} P Q few few′ (Chain.then {k = k} r f z) h = flip-boundary n es fs P Q few few′ (subst (λ gs. OneFlip gs fs) (none-made r (omega arith)) f)
+one-made n {es} {fs} P Q few few′ (Chain.then {k = k} r f z) h = flip-boundary n es fs P Q few few′ (subst (λ gs. OneFlip gs fs) (chain-none r (omega arith)) f)
 
 -- ---- turns
 

@@ -14,6 +14,7 @@ use Rattle.mesh.specs.declared.element.Pair.{Pair}
 use Rattle.mesh.specs.Complex.{mem, Nodup}
 use Rattle.mesh.specs.Manifold.{grow, reach, oneCycle}
 use Rattle.mesh.proofs.Laws.Complex.Sets.{split, and-fst, and-snd, mem-here, mem-there, mem-cases, mem-nil}
+use Rattle.mesh.proofs.Laws.Manifold.Growth.{grow-more}
 use Rattle.theorems.proofs.Manifold.Ends.{degree, NoLoops, endsIn, ends-twice, ends-most, ends-all, ends-full}
 
 -- ---- what the search keeps
@@ -70,15 +71,6 @@ carried-kept J es c = record {
 -- no pair leads out of the set
 abbrev pub Closed : List Pair → List ℕ → Type 0
 Closed es seen = (e : Pair) → List·Memᴰ e es → mem (e .a) seen ≡ mem (e .b) seen
-
-longer-kept : (n : ℕ) (es : List Pair) → Kept es (λ seen. n ≤ length seen)
-longer-kept n es = record { right = λ e seen m p h o. longer p; left = λ e seen m p h o. longer p }
-  where
-    longer : {m : ℕ} → n ≤ m → n ≤ suc m
-    longer p = omega arith
-
-grow-more : (es : List Pair) (seen : List ℕ) → length seen ≤ length (grow es seen)
-grow-more es seen = grow-keeps (λ l. length seen ≤ length l) es seen (longer-kept (length seen) es) (omega arith)
 
 -- neither end alone is in it
 alike : (a b : Bool) → (a && not b) ≡ false → (b && not a) ≡ false → a ≡ b

@@ -3,7 +3,7 @@
 use mathlib.Core.Path.{_≡_, refl, sym, ap, ap₂, _∙_}
 use mathlib.Core.Bool.{Bool, true, _&&_}
 use mathlib.Core.List.{List, [], _∷_, map}
-use Prim.Native.Nat.{ℕ, zero, suc, _+_, _*_, _/_, _%_, _≤_, _<_}
+use Prim.Native.Nat.{ℕ, zero, suc, _+_, _*_, _/_, _%_, _<_}
 use native.Mathlib.Omega.{arith}
 use lib.Dec.{ltb}
 use lib.ListN.{take, drop, getD}
@@ -18,6 +18,7 @@ use Rattle.mesh.specs.Boundary.{allFaces}
 use Rattle.mesh.specs.inside.Surface.{faceAt, faceRow, faceRows}
 use Rattle.mesh.proofs.Laws.Bools.{and-left, and-right}
 use Rattle.mesh.proofs.Laws.NumbersFrom.{numbers-below}
+use Rattle.mesh.proofs.Laws.Intake.Reads.{tets-same}
 
 -- ---- maps
 
@@ -98,15 +99,5 @@ module _ (n : ℕ) (s t : List ℕ) (e : take (4 * n) s ≡ take (4 * n) t) wher
   unfolding faceRows
   rows-kept = map-known (λ m. ltb m (4 * n)) (λ m. faceRow (faceAt s m) m) (λ m. faceRow (faceAt t m) m) face-rows (numbers 0 (4 * n)) (numbers-below 0 (4 * n) (4 * n) (omega arith))
 
-  tets-at : (k e : ℕ) → e + k ≤ n → tets k (drop (4 * e) s) ≡ tets k (drop (4 * e) t)
-  unfolding tets
-  tets-at zero e h = refl
-  tets-at (suc k) e h =
-      let a = word-kept (4 * e) (omega arith) in
-      let b = word-kept (4 * e + 1) (omega arith) in
-      let c = word-kept (4 * e + 2) (omega arith) in
-      let d = word-kept (4 * e + 3) (omega arith) in
-      tets-from s e k ∙ ap₂ (λ (u : Tet) (v : List Tet). u ∷ v) (cc) (tets-at k (suc e) (omega arith)) ∙ sym (tets-from t e k)
-
   pub tets-kept : tets n s ≡ tets n t
-  tets-kept = tets-at n 0 (omega arith)
+  tets-kept = tets-same n t s word-kept

@@ -24,7 +24,7 @@ use Rattle.mesh.proofs.Laws.NumbersFrom.{numbers-split}
 use Rattle.mesh.proofs.Laws.Parts.{paste-part, tail-mid, tail-put}
 use Rattle.mesh.proofs.Laws.Rows.{rows-words}
 use Rattle.mesh.proofs.Laws.Keeping.{unique-is, length-unique-area}
-use Rattle.mesh.proofs.Laws.Intake.Reads.{length-tets}
+use Rattle.mesh.proofs.Laws.Intake.Reads.{length-tets, tets-same}
 use Rattle.mesh.proofs.Laws.Manifold.Fill.{fill-front, fill-turn, fill-kept, filled-rows}
 use Rattle.mesh.proofs.Laws.Manifold.Growth.{kept-both}
 use Rattle.mesh.proofs.Laws.Manifold.Steps.{word-below, put-kept, sort-kept, sort-from-rows}
@@ -39,16 +39,8 @@ tet-kept s₀ s n e q h = rw (at (4 * e) (omega arith), at (4 * e + 1) (omega ar
     at : (j : ℕ) → j < 4 * n → wordAt s j ≡ wordAt s₀ j
     at j l = sym (getD-take (4 * n) s j 0 l) ∙ ap (λ (u : List ℕ). getD u j 0) q ∙ getD-take (4 * n) s₀ j 0 l
 
-tets-same : (n : ℕ) (s t : List ℕ) → ((j : ℕ) → j < 4 * n → wordAt s j ≡ wordAt t j) → tets n s ≡ tets n t
-unfolding tets
-tets-same zero s t h = refl
-tets-same (suc n) s t h =
-    ap₂ (λ (f : Tet) (l : List Tet). f ∷ l)
-    (rw (h 0 (omega arith), h 1 (omega arith), h 2 (omega arith), h 3 (omega arith)) refl)
-    (tets-same n (drop 4 s) (drop 4 t) (λ j k. getD-drop 4 s j 0 ∙ h (4 + j) (omega arith) ∙ sym (getD-drop 4 t j 0)))
-
 pub tets-kept : (n : ℕ) {s₀ s : List ℕ} → KeptBelow (4 * n) s₀ s → tets n s ≡ tets n s₀
-tets-kept n {s₀} {s} k = tets-same n s s₀ (λ j h. word-below k j h)
+tets-kept n {s₀} {s} k = tets-same n s₀ s (λ j h. word-below k j h)
 
 -- elements read from their words
 pub tets-flat : (ts : List Tet) (x : List ℕ) → tets (length ts) (flat (map verticesOf ts) ++ x) ≡ ts

@@ -1,6 +1,6 @@
 -- Elements and points by index: what `tet_at` and `point_at` read is the element or the point with that number. Assumes nothing.
-use mathlib.Core.Path.{_≡_, refl, sym, ap, _∙_}
-use mathlib.Core.List.{List}
+use mathlib.Core.Path.{_≡_, refl, sym, ap, ap₂, _∙_}
+use mathlib.Core.List.{List, _∷_}
 use Prim.Native.Nat.{ℕ, zero, suc, _+_, _*_, _/_, _≤_, _<_}
 use native.Mathlib.Nat.{not-suc-le-zero, le-of-suc-le-suc}
 use native.Mathlib.Omega.{arith}
@@ -37,6 +37,15 @@ pub length-tets : (n : ℕ) (s : List ℕ) → length (tets n s) ≡ n
 unfolding tets
 length-tets zero s = refl
 length-tets (suc n) s = ap suc (length-tets n (drop 4 s))
+
+-- the elements are the same where their words are
+pub tets-same : (n : ℕ) (s t : List ℕ) → ((j : ℕ) → j < 4 * n → wordAt t j ≡ wordAt s j) → tets n t ≡ tets n s
+unfolding tets
+tets-same zero s t h = refl
+tets-same (suc n) s t h =
+    ap₂ (λ (e : Tet) (l : List Tet). e ∷ l)
+    (rw (h 0 (omega arith), h 1 (omega arith), h 2 (omega arith), h 3 (omega arith)))
+    (tets-same n (drop 4 s) (drop 4 t) (λ j g. getD-drop 4 t j 0 ∙ h (4 + j) (omega arith) ∙ sym (getD-drop 4 s j 0)))
 
 pub tet-drop : (s : List ℕ) (e : ℕ) → tetAt (drop 4 s) e ≡ tetAt s (suc e)
 unfolding tetAt

@@ -113,7 +113,7 @@ missing v σ φ e f o =
 pub keep-cons : {A : Type 0} (p : A → Bool) (x : A) (xs : List A) → length (keep p (x ∷ xs)) ≡ bit (p x) + length (keep p xs)
 keep-cons p x xs = elim (split (p x)) [ inl h ↦ rw h (omega arith) | inr h ↦ rw h (omega arith) ]
 
-bit-not : (p : Bool) → bit p + bit (not p) ≡ 1
+pub bit-not : (p : Bool) → bit p + bit (not p) ≡ 1
 bit-not true = refl
 bit-not false = refl
 

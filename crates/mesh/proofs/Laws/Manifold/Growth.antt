@@ -35,7 +35,7 @@ grow-append (e ∷ a) b seen =
       ])
     ]
 
-grow-more : (es : List Pair) (seen : List ℕ) → length seen ≤ length (grow es seen)
+pub grow-more : (es : List Pair) (seen : List ℕ) → length seen ≤ length (grow es seen)
 unfolding grow
 grow-more [] seen = omega arith
 grow-more (e ∷ es) seen =

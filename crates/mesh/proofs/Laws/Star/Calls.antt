@@ -1,19 +1,19 @@
 -- What a caller of src/star.rt cites: with a complete index the answers are the scan's, and the index stays complete when a star is
 -- listed, when slots are gone, and when a slot is written and appended. For `build`, `append` and `join`: `built-complete`,
 -- `appended-complete` and `replaced-complete`. Assumes nothing.
-use mathlib.Core.Path.{_≡_, refl, sym, ap, ap₂, subst, _∙_}
+use mathlib.Core.Path.{_≡_, sym, ap, subst, _∙_}
 use mathlib.Core.Logic.{_⊎_, inl, inr}
 use mathlib.Core.Bool.{Bool, cond}
-use mathlib.Core.List.{List, [], _∷_}
-use Prim.Native.Nat.{ℕ, zero, suc, _+_, _*_, _≤_, _<_}
+use mathlib.Core.List.{List, []}
+use Prim.Native.Nat.{ℕ, _+_, _*_, _≤_, _<_}
 use native.Mathlib.Omega.{arith}
 use lib.ListN.{length, take, drop}
 use lib.Seq.{getD-drop}
-use Rattle.mesh.specs.declared.element.Tet.{Tet}
 use Rattle.mesh.specs.declared.star.Index.{Index}
 use Rattle.mesh.specs.Words.{wordAt}
 use Rattle.mesh.specs.Element.{tets}
 use Rattle.mesh.specs.inside.Star.{starOf, neighboursOf, cornerAt, lengthOf, Complete, Laid, slotsAbout, starRoom, starList, starred, othersMet, neighbourRoom, neighbourList, neighboured, distinct, listed}
+pub use Rattle.mesh.proofs.Laws.Intake.Reads.{tets-same}
 use Rattle.mesh.proofs.Laws.Star.Layout.{room-is}
 use Rattle.mesh.proofs.Laws.Star.Chains.{complete-kept}
 use Rattle.mesh.proofs.Laws.Star.Found.{star-room, star-found, neighbour-room, neighbours-found}
@@ -25,15 +25,6 @@ pub record Answered (s t : List ℕ) (k : ℕ) (us : List ℕ) : Type 0 where
   pub list : take (length us) (drop k t) ≡ us
   pub long : length t ≡ length s
   pub below : (j : ℕ) → j < k → wordAt t j ≡ wordAt s j
-
--- the elements are the same where their words are
-pub tets-same : (n : ℕ) (s t : List ℕ) → ((j : ℕ) → j < 4 * n → wordAt t j ≡ wordAt s j) → tets n t ≡ tets n s
-unfolding tets
-tets-same zero s t h = refl
-tets-same (suc n) s t h =
-    ap₂ (λ (e : Tet) (l : List Tet). e ∷ l)
-    (rw (h 0 (omega arith), h 1 (omega arith), h 2 (omega arith), h 3 (omega arith)))
-    (tets-same n (drop 4 s) (drop 4 t) (λ j g. getD-drop 4 t j 0 ∙ h (4 + j) (omega arith) ∙ sym (getD-drop 4 s j 0)))
 
 module _ (x : Index) (s : List ℕ) (n : ℕ) (l : Laid x (length s)) (hn : n ≤ x .room) (c : Complete x s (4 * n)) where
   -- ---- the answers

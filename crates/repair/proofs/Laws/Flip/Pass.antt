@@ -172,7 +172,7 @@ flip-scores m m′ count near f t i = (
 
 -- ---- the count 0
 
-chain-none : {es fs : List (List ℕ)} {n : ℕ} → Chain es n fs → n ≡ 0 → fs ≡ es
+pub chain-none : {es fs : List (List ℕ)} {n : ℕ} → Chain es n fs → n ≡ 0 → fs ≡ es
 chain-none (Chain.start z e) h = e
 chain-none (Chain.then {k = k} r f z) h = absurd (some-left k (sym z ∙ h))
   where
