@@ -12,12 +12,12 @@ use mesh::star::Index;
 use mesh::words::word;
 ghost use mathlib.Core.Path.{_≡_};
 ghost use Prim.Native.Nat.{ℕ, _+_, _*_, _≤_};
-ghost use Rattle.repair.specs.inside.flip.Layout.{Room, tripleAt};
+ghost use Rattle.repair.specs.inside.flip.Layout.{FlipRoom, tripleAt};
 
 // The layout for nv vertices and n elements, both within document 01's limits.
 pub(crate) fn flip_layout(nv: u32, n: u32) -> Index
     requires { ⌜ (nv ≤ 4096) × (n ≤ 16384) ⌝ }
-    ensures { λ r. ⌜ (r .vertices ≡ nv) × ((m : ℕ) → 256 * n + 32 * nv + 1024 ≤ m → Room r n m) ⌝ }
+    ensures { λ r. ⌜ (r .vertices ≡ nv) × ((m : ℕ) → 256 * n + 32 * nv + 1024 ≤ m → FlipRoom r n m) ⌝ }
 {
     let v = nv as usize;
     let k = n as usize;

@@ -14,13 +14,13 @@ ghost use Rattle.mesh.specs.Words.{pointsOf};
 ghost use Rattle.mesh.specs.Tests.{every};
 ghost use Rattle.mesh.specs.Element.{tets};
 ghost use Rattle.mesh.specs.Intake.{wellNumbered};
-ghost use Rattle.repair.specs.inside.flip.Layout.{Room};
+ghost use Rattle.repair.specs.inside.flip.Layout.{FlipRoom};
 ghost use Rattle.repair.specs.inside.flip.Tries.{Begun};
 ghost use Rattle.repair.specs.inside.flip.Prepare.{FacesLaid, EdgesLaid, SlotsLaid};
 
 // Lists the shared faces behind a copy of the elements, and gives how many.
 fn lay_faces(work: &mut [u32], x: Index, n: u32, points: &[f64], elements: &[u32]) -> usize
-    requires { ⌜ Room x n (length (now work)) × (4 * n ≤ length (now elements)) ⌝ }
+    requires { ⌜ FlipRoom x n (length (now work)) × (4 * n ≤ length (now elements)) ⌝ }
     ensures { λ r. ⌜ FacesLaid x n (pointsOf (x .vertices) (now (points .entry))) (tets n (now (elements .entry))) r (now (work .entry)) (now (work .exit)) ⌝ }
 {
     let nv = x.vertices as usize;
@@ -33,7 +33,7 @@ fn lay_faces(work: &mut [u32], x: Index, n: u32, points: &[f64], elements: &[u32
 
 // Lists the bad elements and their edges behind a copy of the elements, and gives how many.
 fn lay_edges(work: &mut [u32], x: Index, n: u32, points: &[f64], elements: &[u32]) -> Listed
-    requires { ⌜ Room x n (length (now work)) × (4 * n ≤ length (now elements)) ⌝ }
+    requires { ⌜ FlipRoom x n (length (now work)) × (4 * n ≤ length (now elements)) ⌝ }
     ensures { λ r. ⌜ EdgesLaid x n (pointsOf (x .vertices) (now (points .entry))) (tets n (now (elements .entry))) r (now (work .entry)) (now (work .exit)) ⌝ }
 {
     let nv = x.vertices as usize;
@@ -46,7 +46,7 @@ fn lay_edges(work: &mut [u32], x: Index, n: u32, points: &[f64], elements: &[u32
 
 // Lays the elements into the first n slots, and builds their index.
 fn lay_slots(work: &mut [u32], x: Index, n: u32, elements: &[u32])
-    requires { ⌜ Room x n (length (now work)) ⌝ }
+    requires { ⌜ FlipRoom x n (length (now work)) ⌝ }
     requires { ⌜ (4 * n ≤ length (now elements)) × (every (wellNumbered (x .vertices)) (tets n (now elements)) ≡ true) ⌝ }
     ensures { λ _. ⌜ SlotsLaid x n (tets n (now (elements .entry))) (now (work .entry)) (now (work .exit)) ⌝ }
 {
@@ -62,7 +62,7 @@ pub(crate) fn begin_flip(
     points: &[f64],
     elements: &[u32],
 ) -> Lists
-    requires { ⌜ Room x n (length (now work)) ⌝ }
+    requires { ⌜ FlipRoom x n (length (now work)) ⌝ }
     requires { ⌜ (4 * n ≤ length (now elements)) × (every (wellNumbered (x .vertices)) (tets n (now elements)) ≡ true) ⌝ }
     ensures { λ r. ⌜ Begun x n (pointsOf (x .vertices) (now (points .entry))) (tets n (now (elements .entry))) r (now (work .exit)) ⌝ }
 {

@@ -18,12 +18,12 @@ ghost use Rattle.mesh.specs.inside.Rows.{rows};
 ghost use Rattle.mesh.specs.inside.Shared.{sharedRow};
 ghost use Rattle.mesh.specs.Measure.{measure};
 ghost use Rattle.repair.specs.Flip.{State, tryFaces, tryEdges};
-ghost use Rattle.repair.specs.inside.flip.Layout.{Room, FacesBound, EdgesBound};
+ghost use Rattle.repair.specs.inside.flip.Layout.{FlipRoom, FacesBound, EdgesBound};
 ghost use Rattle.repair.specs.inside.flip.Tries.{Holds, Went, Start, FacesListed, EdgesListed, edgeRow, faceRowsAt, edgeRowsAt};
 
 // Tries the listed faces in order, `count` of them, from no flip on.
 pub(crate) fn try_faces(work: &mut [u32], x: Index, n: u32, count: usize, points: &[f64]) -> Tried
-    requires { ⌜ Room x n (length (now work)) × (count ≤ 4 * n) ⌝ }
+    requires { ⌜ FlipRoom x n (length (now work)) × (count ≤ 4 * n) ⌝ }
     ensures { λ r. ⌜ ((ts : List Tet) (fs : List Triple) (s : State) → Holds x n (record { slots = n; flips = 0 }) (now (work .entry)) s → length ts ≡ n
         → rows 5 count (drop (faceRowsAt x n) (now (work .entry))) ≡ map (sharedRow ts) fs → FacesListed (x .vertices) ts fs → Start ts s → FacesBound n (s .slots)
         → Went x n (FacesBound n) (now (work .entry)) (now (work .exit)) r (tryFaces (measure (pointsOf (x .vertices) (now (points .entry)))) ts s fs)) ⌝ }
@@ -53,7 +53,7 @@ pub(crate) fn try_edges(
     t: Tried,
     points: &[f64],
 ) -> Tried
-    requires { ⌜ Room x n (length (now work)) × (bad ≤ n) × (count ≤ 6 * n) × (t .slots ≤ 131072) × (t .flips ≤ 4 * n) ⌝ }
+    requires { ⌜ FlipRoom x n (length (now work)) × (bad ≤ n) × (count ≤ 6 * n) × (t .slots ≤ 131072) × (t .flips ≤ 4 * n) ⌝ }
     ensures { λ r. ⌜ ((es : List Pair) (s : State) → Holds x n t (now (work .entry)) s
         → rows 2 count (drop (edgeRowsAt x n bad) (now (work .entry))) ≡ map edgeRow es → EdgesListed (x .vertices) es → EdgesBound n (s .slots)
         → Went x n (EdgesBound n) (now (work .entry)) (now (work .exit)) r (tryEdges (measure (pointsOf (x .vertices) (now (points .entry)))) s es)) ⌝ }

@@ -24,7 +24,7 @@ use Rattle.mesh.proofs.Laws.Star.Written.{length-written, written-behind, writt
 use Rattle.mesh.proofs.Laws.Star.Hanging.{length-built, built-outside, built-complete}
 use Rattle.mesh.proofs.Laws.Star.Calls.{tets-same}
 use Rattle.repair.specs.inside.Layout.{slotOk}
-use Rattle.repair.specs.inside.flip.Layout.{Room, facesAt, slotOf, wordsIn}
+use Rattle.repair.specs.inside.flip.Layout.{FlipRoom, facesAt, slotOf, wordsIn}
 use Rattle.repair.specs.inside.flip.Tries.{Begun, faceRowsAt, edgeRowsAt}
 use Rattle.repair.specs.inside.flip.Prepare.{FacesLaid, EdgesLaid, SlotsLaid}
 use Rattle.repair.proofs.Laws.Layout.{area-at}
@@ -65,7 +65,7 @@ all-slots nv few (t ∷ ts) h =
     let r = all-slots nv few ts (and-snd (wellNumbered nv t) (every (wellNumbered nv) ts) h) in
     (ap₂ (λ (u : Option Tet) (l : List (Option Tet)). u ∷ l) (sym (slot-some t (well-there nv few t a))) (r .0), rw (ok-well nv t a) (r .1))
 
-module _ (x : Index) (n : ℕ) (els w u v : List ℕ) (room : Room x n (length w)) (long : 4 * n ≤ length els) (good : every (wellNumbered (x .vertices)) (tets n els) ≡ true)
+module _ (x : Index) (n : ℕ) (els w u v : List ℕ) (room : FlipRoom x n (length w)) (long : 4 * n ≤ length els) (good : every (wellNumbered (x .vertices)) (tets n els) ≡ true)
     (e₁ : u ≡ copied els 0 w (x .slots) (4 * n)) (e₂ : v ≡ built x n u) where
   front-long : length (take (4 * n) els) ≡ 4 * n
   front-long = length-take-le (4 * n) els long
@@ -80,7 +80,7 @@ module _ (x : Index) (n : ℕ) (els w u v : List ℕ) (room : Room x n (length w
   u-long = ap length u-is ∙ length-written w (x .slots) (take (4 * n) els) fits
 
   laid : Laid x (length u)
-  laid = room-laid (subst (Room x n) (sym u-long) room)
+  laid = room-laid (subst (FlipRoom x n) (sym u-long) room)
 
   enough : n ≤ x .room
   enough = let a = room .room in omega arith
@@ -104,7 +104,7 @@ module _ (x : Index) (n : ℕ) (els w u v : List ℕ) (room : Room x n (length w
       let q = all-slots (x .vertices) (room .few) (tets n els) good in
       record {
         stands = record {
-          room = subst (Room x n) (sym v-long) room;
+          room = subst (FlipRoom x n) (sym v-long) room;
           fits = enough;
           slots = q .0 ∙ ap (map slotOf) (sym slot-words);
           proper = ap (every (slotOk (x .vertices))) slot-words ∙ q .1;
@@ -115,7 +115,7 @@ module _ (x : Index) (n : ℕ) (els w u v : List ℕ) (room : Room x n (length w
 
 -- ---- the whole
 
-pub begun : {x : Index} {n : ℕ} {ps : List Point} {ts : List Tet} {r : ℕ} {l : Listed} {w₀ w₁ w₂ w₃ : List ℕ} → Room x n (length w₀) → FacesLaid x n ps ts r w₀ w₁ → EdgesLaid x n ps ts l w₁ w₂ → SlotsLaid x n ts w₂ w₃
+pub begun : {x : Index} {n : ℕ} {ps : List Point} {ts : List Tet} {r : ℕ} {l : Listed} {w₀ w₁ w₂ w₃ : List ℕ} → FlipRoom x n (length w₀) → FacesLaid x n ps ts r w₀ w₁ → EdgesLaid x n ps ts l w₁ w₂ → SlotsLaid x n ts w₂ w₃
     → Begun x n ps ts (record { faces = r; bad = l .elements; edges = l .rows }) w₃
 begun {x} {n} {r = r} {l = l} {w₁ = w₁} {w₂ = w₂} {w₃ = w₃} room f e s =
     let a = room .area in let b = f .few in let c = e .fewBad in let d = e .few in

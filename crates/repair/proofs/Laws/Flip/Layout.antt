@@ -21,16 +21,16 @@ use Rattle.mesh.proofs.Laws.Boundary.Same.{length-map}
 use Rattle.mesh.proofs.Laws.Intake.Reads.{length-tets}
 use Rattle.repair.specs.Flip.{State, live}
 use Rattle.repair.specs.inside.Layout.{Same, slotOk}
-use Rattle.repair.specs.inside.flip.Layout.{Room, Stands, Kept, slotOf, wordsIn, tripleAt}
+use Rattle.repair.specs.inside.flip.Layout.{FlipRoom, Stands, Kept, slotOf, wordsIn, tripleAt}
 
 -- the areas of the index lie one behind the other
-pub room-laid : {x : Index} {n m : ℕ} → Room x n m → Laid x m
+pub room-laid : {x : Index} {n m : ℕ} → FlipRoom x n m → Laid x m
 room-laid r =
     let a = r .room in let b = r .elements in let c = r .slots in let d = r .nexts in let e = r .heads in let f = r .lengths in let g = r .area in let h = r .long in
     record { few = omega arith; nexts = omega arith; heads = omega arith; lengths = omega arith; area = omega arith; end = omega arith }
 
 -- the area has room for 132 words an element
-pub area-long : {x : Index} {n m : ℕ} → Room x n m → x .area + 132 * n + 30 * x .vertices + 1024 ≤ m
+pub area-long : {x : Index} {n m : ℕ} → FlipRoom x n m → x .area + 132 * n + 30 * x .vertices + 1024 ≤ m
 area-long r = let f = r .lengths in let g = r .area in let h = r .long in omega arith
 
 -- nothing in a slot, or an element
@@ -67,7 +67,7 @@ module _ {x : Index} {n c : ℕ} {w : List ℕ} {s : State} (z : Stands x n c w 
       let l = room-laid (z .room) in
       let e : wordsIn x c t ≡ wordsIn x c w = answered-elements x w c l (z .fits) (z .index) t (k .before) in
       record {
-        room = subst (Room x n) (sym (k .long)) (z .room);
+        room = subst (FlipRoom x n) (sym (k .long)) (z .room);
         fits = z .fits;
         slots = z .slots ∙ ap (map slotOf) (sym e);
         proper = ap (every (slotOk (x .vertices))) e ∙ z .proper;

@@ -28,7 +28,7 @@ use Rattle.mesh.proofs.Laws.List.Push.{shape-append}
 use Rattle.mesh.proofs.Laws.Shared.Runs.{runs-shared}
 use Rattle.mesh.proofs.Laws.Shared.Scan.{shape-runs}
 use Rattle.repair.specs.inside.Layout.{Same}
-use Rattle.repair.specs.inside.flip.Layout.{Room, facesAt, edgesAt}
+use Rattle.repair.specs.inside.flip.Layout.{FlipRoom, facesAt, edgesAt}
 use Rattle.repair.specs.inside.flip.Prepare.{FacesLaid, EdgesLaid}
 use Rattle.repair.proofs.Laws.Flip.Part.{part-long, part-elements, part-same, part-rows}
 use Rattle.mesh.proofs.Laws.Intake.Reads.{length-tets}
@@ -65,7 +65,7 @@ module _ (ps : List Point) (ts : List Tet) where
   unfolding sharedIn sharedFits
   shared-is n s e h g = rw (e, le-leb n 65536 h, le-leb (44 * n) (length s) g) refl
 
-module _ (x : Index) (n : ℕ) (ps : List Point) (els w w₁ p v : List ℕ) (r : ℕ) (room : Room x n (length w)) (long : 4 * n ≤ length els) (e₁ : w₁ ≡ copied els 0 w (facesAt x) (4 * n))
+module _ (x : Index) (n : ℕ) (ps : List Point) (els w w₁ p v : List ℕ) (r : ℕ) (room : FlipRoom x n (length w)) (long : 4 * n ≤ length els) (e₁ : w₁ ≡ copied els 0 w (facesAt x) (4 * n))
     (e₂ : _≡_ {A = Shares} (record { number = r; area = p }) (sharedIn ps n (take (facesAt x + 44 * n - facesAt x) (drop (facesAt x) w₁))))
     (e₃ : v ≡ take (facesAt x) w₁ ++ (p ++ drop (facesAt x + 44 * n - facesAt x) (drop (facesAt x) w₁))) where
   abbrev s : List ℕ
@@ -152,7 +152,7 @@ module _ (ps : List Point) (ts : List Tet) where
   unfolding listedIn listFits
   edges-are n s e h g = rw (e, le-leb n 65536 h, le-leb (32 * n) (length s) g) refl
 
-module _ (x : Index) (n : ℕ) (ps : List Point) (els w w₁ p v : List ℕ) (r : Listed) (room : Room x n (length w)) (long : 4 * n ≤ length els) (e₁ : w₁ ≡ copied els 0 w (edgesAt x n) (4 * n))
+module _ (x : Index) (n : ℕ) (ps : List Point) (els w w₁ p v : List ℕ) (r : Listed) (room : FlipRoom x n (length w)) (long : 4 * n ≤ length els) (e₁ : w₁ ≡ copied els 0 w (edgesAt x n) (4 * n))
     (e₂ : _≡_ {A = Listing} (record { listed = r; area = p }) (listedIn (badEdges ps) ps n (take (edgesAt x n + 32 * n - edgesAt x n) (drop (edgesAt x n) w₁))))
     (e₃ : v ≡ take (edgesAt x n) w₁ ++ (p ++ drop (edgesAt x n + 32 * n - edgesAt x n) (drop (edgesAt x n) w₁))) where
   abbrev s₂ : List ℕ

@@ -21,7 +21,7 @@ use Rattle.mesh.proofs.Laws.Rows.{length-rows, rows-at}
 use Rattle.mesh.proofs.Laws.Boundary.Same.{length-map}
 use Rattle.repair.specs.declared.flip.counts.Tried.{Tried}
 use Rattle.repair.specs.Flip.{State, tryFace, tryFaces, tryEdge, tryEdges}
-use Rattle.repair.specs.inside.flip.Layout.{Room, FacesBound, EdgesBound, tripleAt}
+use Rattle.repair.specs.inside.flip.Layout.{FlipRoom, FacesBound, EdgesBound, tripleAt}
 use Rattle.repair.specs.inside.flip.Tries.{Holds, Counted, Counts, Went, Start, FaceListed, FacesListed, EdgeListed, EdgesListed, edgeRow, faceRowsAt, edgeRowsAt}
 use Rattle.repair.proofs.Laws.Flip.Layout.{kept-trans}
 
@@ -100,7 +100,7 @@ pub record AtFace (x : Index) (n count : ℕ) (ps : List Float) (w₀ w : List �
   pub reached : (ts : List Tet) (fs : List Triple) (s : State) → Faces x n count w₀ ts fs s
       → Reached (tryFaces (measure (pointsOf (x .vertices) ps)) ts) (Start ts) (FacesBound n) x n w₀ fs s w t i
 
-module _ {x : Index} {n count : ℕ} {ps : List Float} {w₀ : List ℕ} (room : Room x n (length w₀)) (few : count ≤ 4 * n) where
+module _ {x : Index} {n count : ℕ} {ps : List Float} {w₀ : List ℕ} (room : FlipRoom x n (length w₀)) (few : count ≤ 4 * n) where
   pub faces-start : AtFace x n count ps w₀ w₀ (record { slots = n; flips = 0 }) 0
   faces-start = record {
     most = omega arith;
@@ -192,7 +192,7 @@ pub record AtEdge (x : Index) (n bad count : ℕ) (t₀ : Tried) (ps : List Floa
   pub reached : (es : List Pair) (s : State) → Edges x n bad count t₀ w₀ es s
       → Reached (tryEdges (measure (pointsOf (x .vertices) ps))) (λ (u : State). Unit {0}) (EdgesBound n) x n w₀ es s w t i
 
-module _ {x : Index} {n bad count : ℕ} {t₀ : Tried} {ps : List Float} {w₀ : List ℕ} (room : Room x n (length w₀)) (fewBad : bad ≤ n) (few : count ≤ 6 * n) where
+module _ {x : Index} {n bad count : ℕ} {t₀ : Tried} {ps : List Float} {w₀ : List ℕ} (room : FlipRoom x n (length w₀)) (fewBad : bad ≤ n) (few : count ≤ 6 * n) where
   pub edges-start : t₀ .slots ≤ 131072 → t₀ .flips ≤ 4 * n → AtEdge x n bad count t₀ ps w₀ w₀ t₀ 0
   edges-start a b = record {
     most = omega arith;

@@ -31,7 +31,7 @@ use Rattle.mesh.proofs.Laws.About.Calls.{Copied, live-count, live-copied}
 use Rattle.repair.specs.declared.flip.counts.Tried.{Tried}
 use Rattle.repair.specs.declared.flip.counts.Lists.{Lists}
 use Rattle.repair.specs.Flip.{State, live, listedEdges, tryFaces, tryEdges, flips}
-use Rattle.repair.specs.inside.flip.Layout.{Room, Stands, FacesBound, EdgesBound}
+use Rattle.repair.specs.inside.flip.Layout.{FlipRoom, Stands, FacesBound, EdgesBound}
 use Rattle.repair.specs.inside.flip.Tries.{Holds, Went, Start, FacesListed, EdgesListed, edgeRow, faceRowsAt, edgeRowsAt, Begun}
 use Rattle.repair.specs.inside.flip.Finish.{EndRoom, flipEnd}
 use Rattle.repair.specs.inside.flip.Fitting.{FlipFitting, flipLast, flipWhole}
@@ -108,7 +108,7 @@ module _ (z : Sizes) (points : List Float) (es ss w₀ : List ℕ) (fit : FlipFi
         stands : Stands x n (u .slots) w₃ edged
         stands = edges-went .holds .stands
 
-        room : Room x n (length w₃)
+        room : FlipRoom x n (length w₃)
         room = stands .room
 
         fits-area : x .area + 4 * u .slots ≤ length w₃

@@ -24,7 +24,7 @@ use Rattle.mesh.proofs.Laws.Star.Hanging.{length-appended, appended-outside, ap
 use Rattle.repair.specs.Flip.{State}
 use Rattle.repair.specs.inside.Layout.{slotOk}
 use Rattle.repair.specs.inside.improve.Collapse.{putSlot}
-use Rattle.repair.specs.inside.flip.Layout.{Room, Stands, Kept, facesAt, slotOf, wordsIn}
+use Rattle.repair.specs.inside.flip.Layout.{FlipRoom, Stands, Kept, facesAt, slotOf, wordsIn}
 use Rattle.repair.proofs.Laws.Layout.{area-at}
 use Rattle.repair.proofs.Laws.Project.Lists.{map-set}
 use Rattle.repair.proofs.Laws.Improve.Edges.{every-append}
@@ -113,7 +113,7 @@ module _ {x : Index} {n c : ℕ} {w : List ℕ} {s : State} (z : Stands x n c w 
 
     stands : Stands x n c u (record { slots = set (s .slots) e none; flips = s .flips })
     stands = record {
-      room = subst (Room x n) (sym long) (z .room);
+      room = subst (FlipRoom x n) (sym long) (z .room);
       fits = z .fits;
       slots = ap (λ (l : List (Option Tet)). set l e none) (z .slots) ∙ ap (set (map slotOf (wordsIn x c w)) e) (sym (slot-none goneTet refl)) ∙ sym (ap (map slotOf) words ∙ map-set slotOf (wordsIn x c w) e goneTet);
       proper = ap (every (slotOk (x .vertices))) words ∙ every-set (slotOk (x .vertices)) (wordsIn x c w) e goneTet (z .proper) (ok-gone (x .vertices));
@@ -203,7 +203,7 @@ module _ {x : Index} {n c : ℕ} {w : List ℕ} {s : State} (z : Stands x n c w 
   pub slot-added : (v : List ℕ) → v ≡ after → Stands x n (c + 1) v (record { slots = s .slots ++ (some t ∷ []); flips = s .flips }) × Kept x w v
   slot-added v i = subst (λ (y : List ℕ). Stands x n (c + 1) y (record { slots = s .slots ++ (some t ∷ []); flips = s .flips }) × Kept x w y) (sym i) (
     record {
-      room = subst (Room x n) (sym after-long) (z .room);
+      room = subst (FlipRoom x n) (sym after-long) (z .room);
       fits = omega arith;
       slots =
           ap₂ (λ (l : List (Option Tet)) (q : Option Tet). l ++ (q ∷ [])) (z .slots) (sym (slot-some t (well-there (x .vertices) (let k = z .room .few in omega arith) t ok)))

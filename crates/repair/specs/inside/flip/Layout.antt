@@ -28,7 +28,7 @@ abbrev pub edgesAt : Index → ℕ → ℕ
 edgesAt x n = facesAt x + 44 * n
 
 -- the layout for n elements in m words: six slots an element, the index of the slots, faces, edges, and an area for the rest
-pub record Room (x : Index) (n m : ℕ) : Type 0 where
+pub record FlipRoom (x : Index) (n m : ℕ) : Type 0 where
   pub few : x .vertices ≤ 4096
   pub elements : n ≤ 16384
   pub room : x .room ≡ 6 * n
@@ -51,7 +51,7 @@ wordsIn x c w = tets c (drop (x .slots) w)
 
 -- the work slice stands for the state s, which has c slots
 pub record Stands (x : Index) (n c : ℕ) (w : List ℕ) (s : State) : Type 0 where
-  pub room : Room x n (length w)
+  pub room : FlipRoom x n (length w)
   pub fits : c ≤ x .room
   pub slots : s .slots ≡ map slotOf (wordsIn x c w)
   pub proper : every (slotOk (x .vertices)) (wordsIn x c w) ≡ true
