@@ -12,7 +12,13 @@
 use mesh::star::Index;
 ghost use mathlib.Core.Path.{_≡_};
 ghost use Prim.Native.Nat.{ℕ, _+_, _*_, _≤_};
-ghost use Rattle.repair.specs.inside.Layout.{Room};
+ghost use Rattle.repair.specs.inside.Layout.{Room, flagsAt, pairsAt, edgesAt};
+
+// How many words a row of the groups has (mesh, group.rt).
+pub(crate) const ROW_WORDS: usize = 7;
+
+// How many of them are the rank's. The vertex stands behind them.
+pub(crate) const RANK_WORDS: usize = 6;
 
 // The layout for nv vertices and n elements, both within document 01's limits.
 pub(crate) fn layout(nv: u32, n: u32) -> Index
@@ -32,4 +38,26 @@ pub(crate) fn layout(nv: u32, n: u32) -> Index
         room: n,
         vertices: nv,
     }
+}
+
+// Where the flags begin.
+pub(crate) fn flags_at(x: Index) -> usize
+    ensures { λ r. ⌜ r ≡ flagsAt x ⌝ }
+{
+    ROW_WORDS * (x.vertices as usize)
+}
+
+// Where the pairs begin.
+pub(crate) fn pairs_at(x: Index) -> usize
+    ensures { λ r. ⌜ r ≡ pairsAt x ⌝ }
+{
+    flags_at(x) + (x.vertices as usize)
+}
+
+// Where the edges begin.
+pub(crate) fn edges_at(x: Index) -> usize
+    requires { ⌜ x .lengths ≤ 1048576 ⌝ }
+    ensures { λ r. ⌜ r ≡ edgesAt x ⌝ }
+{
+    x.lengths + (x.vertices as usize)
 }

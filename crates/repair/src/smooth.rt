@@ -7,6 +7,8 @@ mod move_group;
 mod trial_scores;
 
 use crate::answer::Answer;
+use crate::layout::RANK_WORDS;
+use crate::layout::ROW_WORDS;
 use crate::layout::layout;
 use crate::smooth::candidates::mean_of;
 use crate::smooth::choose::Best;
@@ -58,7 +60,7 @@ fn list_about(work: &mut [u32], x: Index, group: usize, count: usize) -> Site
     requires { ⌜ Ready x (now work) × Rows x (now work) group count ⌝ }
     ensures { λ r. ⌜ Listed x group count (now (work .entry)) (now (work .exit)) r ⌝ }
 {
-    let n = star_about(work, x, group, count, 7);
+    let n = star_about(work, x, group, count, ROW_WORDS);
     Site {
         vertices: x.vertices as usize,
         group: group,
@@ -167,7 +169,7 @@ fn smooth_group(
     ensures { λ r. ⌜ SameTo (x .area) (now (work .entry)) (now (work .exit)) × (r ≤ moved + run .size) ⌝ }
 {
     let size = run.size;
-    let group = 7 * run.first + 6;
+    let group = ROW_WORDS * run.first + RANK_WORDS;
     let site = list_about(work, x, group, size);
     let lowest = lowest_about(points, elements, work, site);
     if !(lowest < 0.15) {
@@ -218,7 +220,7 @@ fn smooth_groups(
     let mut first = 0;
     let mut moved = 0;
     while first < nv {
-        let size = run_length(work, first, nv, 7, 6);
+        let size = run_length(work, first, nv, ROW_WORDS, RANK_WORDS);
         let run = Run {
             first: first,
             size: size,

@@ -1,6 +1,6 @@
 -- A round of `improve`, turn by turn: where the labelled loops over edges, directions and pairs stand. Assumes nothing.
 use mathlib.Core.Path.{_≡_, refl, sym, ap, ap₂, subst, _∙_}
-use mathlib.Core.Bool.{Bool, true, false, not, cond, _&&_, _||_}
+use mathlib.Core.Bool.{Bool, true, false, cond, _&&_, _||_}
 use mathlib.Core.List.{List, [], _∷_, _++_, map}
 use Prim.Native.Nat.{ℕ, zero, suc, _+_, _*_, _≤_, _<_}
 use native.Mathlib.Omega.{arith}
@@ -19,14 +19,15 @@ use Rattle.mesh.specs.Sets.{among}
 use Rattle.mesh.specs.Measure.{Measure, measure}
 use Rattle.repair.specs.Mesh.{Mesh}
 use Rattle.repair.specs.Improve.{State, stratumRule, activeGroup, pairOk, pairOff, pairsFor, about, collapsed, gains, mayGo, go, tryEdge, tryEdges}
-use Rattle.repair.specs.inside.Layout.{Room, Stands, Reads, Ready, Same, Pairs, flagsAt, pairsAt, edgesAt, pairsOf, pairsIn, edgesOf, edgesIn}
+use Rattle.repair.specs.inside.Layout.{Room, Stands, Reads, Ready, Same, Pairs, pairsAt, edgesAt, pairsOf, pairsIn, edgesOf, edgesIn}
 use Rattle.repair.specs.inside.improve.Collapse.{Replaces}
+use Rattle.repair.specs.inside.improve.Partners.{activeIn}
 use Rattle.repair.specs.inside.improve.Round.{below, wayOf, MayPair}
 use Rattle.mesh.proofs.Laws.Complex.Sets.{clash, and-fst, and-snd, or-right}
 use Rattle.repair.proofs.Laws.Layout.{stands-kept}
 use Rattle.repair.proofs.Laws.Replace.Pairs.{length-pairs}
 use Rattle.repair.proofs.Laws.Gain.Judging.{pairs-same}
-use borrow.Author.Tests.{ltb-true, eq-eqb}
+use borrow.Author.Tests.{ltb-true, eq-eqb, not-true, not-false}
 
 -- the first of two same lists is the same
 head-same : (f e : Pair) (l r : List Pair) → f ∷ l ≡ e ∷ r → f ≡ e
@@ -34,11 +35,6 @@ head-same f e l r h = ap (λ u. elim u [ [] ↦ f | y ∷ k ↦ y ]) h
 
 same-pair : (e : Pair) → samePair e e ≡ true
 same-pair e = rw (eq-eqb (e .a) (e .a) refl, eq-eqb (e .b) (e .b) refl)
-
--- a test's opposite, turned back
-not-not : (b : Bool) {c : Bool} → not (not b) ≡ c → b ≡ c
-not-not true h = h
-not-not false h = h
 
 -- ---- an edge and its directions
 
@@ -261,11 +257,11 @@ module _ (o : Options) (x : Index) (n many : ℕ) (w₀ : List ℕ) (ps qs : Lis
       });
     }
 
-    flagged : (m : Mesh) (t : State) (v : ℕ) → Stands o m x n w t → v < x .vertices → not (eqb (wordAt w (flagsAt x + v)) 0) ≡ true → mem v (t .replaced) ≡ true
-    flagged m t v z b f = not-not (mem v (t .replaced)) (ap not (sym (z .flags v b)) ∙ f)
+    flagged : (m : Mesh) (t : State) (v : ℕ) → Stands o m x n w t → v < x .vertices → activeIn x w v ≡ false → mem v (t .replaced) ≡ true
+    flagged m t v z b f = not-false (mem v (t .replaced)) (sym (z .flags v b) ∙ f)
 
-    unflagged : (m : Mesh) (t : State) (v : ℕ) → Stands o m x n w t → v < x .vertices → not (eqb (wordAt w (flagsAt x + v)) 0) ≡ false → mem v (t .replaced) ≡ false
-    unflagged m t v z b f = not-not (mem v (t .replaced)) (ap not (sym (z .flags v b)) ∙ f)
+    unflagged : (m : Mesh) (t : State) (v : ℕ) → Stands o m x n w t → v < x .vertices → activeIn x w v ≡ true → mem v (t .replaced) ≡ false
+    unflagged m t v z b f = not-true (mem v (t .replaced)) (sym (z .flags v b) ∙ f)
 
     first-below : e .a < x .vertices
     first-below = ltb-true (e .a) (x .vertices) (and-fst (ltb (e .a) (x .vertices)) (ltb (e .b) (x .vertices)) edge-below)
@@ -273,14 +269,14 @@ module _ (o : Options) (x : Index) (n many : ℕ) (w₀ : List ℕ) (ps qs : Lis
     second-below : e .b < x .vertices
     second-below = ltb-true (e .b) (x .vertices) (and-snd (ltb (e .a) (x .vertices)) (ltb (e .b) (x .vertices)) edge-below)
 
-    pub edges-first : not (eqb (wordAt w (flagsAt x + e .a)) 0) ≡ true → AtEdge w replaced (i + 1)
+    pub edges-first : activeIn x w (e .a) ≡ false → AtEdge w replaced (i + 1)
     edges-first f = skip (λ m t z. edge-first o m (measure (m .points)) t e (flagged m t (e .a) z first-below f))
 
-    pub edges-second : not (eqb (wordAt w (flagsAt x + e .b)) 0) ≡ true → AtEdge w replaced (i + 1)
+    pub edges-second : activeIn x w (e .b) ≡ false → AtEdge w replaced (i + 1)
     edges-second f = skip (λ m t z. edge-second o m (measure (m .points)) t e (flagged m t (e .b) z second-below f))
 
     -- none is: its directions
-    pub ways-start : not (eqb (wordAt w (flagsAt x + e .a)) 0) ≡ false → not (eqb (wordAt w (flagsAt x + e .b)) 0) ≡ false → AtWay w replaced (i + 1) e 0
+    pub ways-start : activeIn x w (e .a) ≡ true → activeIn x w (e .b) ≡ true → AtWay w replaced (i + 1) e 0
     unfolding tryEdges
     ways-start f g = record {
       given = h .given;

@@ -12,7 +12,7 @@ use mesh::star::Index;
 use mesh::words::word;
 ghost use mathlib.Core.Path.{_≡_};
 ghost use Prim.Native.Nat.{ℕ, _+_, _*_, _≤_};
-ghost use Rattle.repair.specs.inside.flip.Layout.{FlipRoom, tripleAt};
+ghost use Rattle.repair.specs.inside.flip.Layout.{FlipRoom, facesAt, edgesAt, tripleAt};
 
 // The layout for nv vertices and n elements, both within document 01's limits.
 pub(crate) fn flip_layout(nv: u32, n: u32) -> Index
@@ -31,6 +31,22 @@ pub(crate) fn flip_layout(nv: u32, n: u32) -> Index
         room: 6 * n,
         vertices: nv,
     }
+}
+
+// Where the faces begin.
+pub(crate) fn faces_at(x: Index) -> usize
+    requires { ⌜ x .lengths ≤ 1048576 ⌝ }
+    ensures { λ r. ⌜ r ≡ facesAt x ⌝ }
+{
+    x.lengths + (x.vertices as usize)
+}
+
+// Where the edges begin, for n elements.
+pub(crate) fn edges_at(x: Index, n: u32) -> usize
+    requires { ⌜ x .lengths ≤ 1048576 ⌝ }
+    ensures { λ r. ⌜ r ≡ edgesAt x n ⌝ }
+{
+    faces_at(x) + 44 * (n as usize)
 }
 
 // The triple whose three words begin at p, 0 past the end.

@@ -1,5 +1,7 @@
 // How `flip` begins: slots and their index, shared faces and edges listed, in the work slice (flip/layout.rt).
 use crate::flip::counts::Lists;
+use crate::flip::layout::edges_at;
+use crate::flip::layout::faces_at;
 use mesh::list::Listed;
 use mesh::list::bad_edges_in;
 use mesh::shared::shared_faces_in;
@@ -23,12 +25,11 @@ fn lay_faces(work: &mut [u32], x: Index, n: u32, points: &[f64], elements: &[u32
     requires { ⌜ FlipRoom x n (length (now work)) × (4 * n ≤ length (now elements)) ⌝ }
     ensures { λ r. ⌜ FacesLaid x n (pointsOf (x .vertices) (now (points .entry))) (tets n (now (elements .entry))) r (now (work .entry)) (now (work .exit)) ⌝ }
 {
-    let nv = x.vertices as usize;
     let m = n as usize;
-    let k = x.lengths + nv;
-    let e = k + 44 * m;
+    let k = faces_at(x);
+    let e = edges_at(x, n);
     copy_into(elements, 0, work, k, 4 * m);
-    shared_faces_in(&mut work[k..e], m, points, nv)
+    shared_faces_in(&mut work[k..e], m, points, x.vertices as usize)
 }
 
 // Lists the bad elements and their edges behind a copy of the elements, and gives how many.
@@ -36,12 +37,11 @@ fn lay_edges(work: &mut [u32], x: Index, n: u32, points: &[f64], elements: &[u32
     requires { ⌜ FlipRoom x n (length (now work)) × (4 * n ≤ length (now elements)) ⌝ }
     ensures { λ r. ⌜ EdgesLaid x n (pointsOf (x .vertices) (now (points .entry))) (tets n (now (elements .entry))) r (now (work .entry)) (now (work .exit)) ⌝ }
 {
-    let nv = x.vertices as usize;
     let m = n as usize;
-    let k = x.lengths + nv + 44 * m;
-    let e = k + 32 * m;
+    let k = edges_at(x, n);
+    let e = x.area;
     copy_into(elements, 0, work, k, 4 * m);
-    bad_edges_in(points, nv, &mut work[k..e], m)
+    bad_edges_in(points, x.vertices as usize, &mut work[k..e], m)
 }
 
 // Lays the elements into the first n slots, and builds their index.

@@ -1,5 +1,7 @@
 // The listed faces and edges of `flip`, tried one after the other.
 use crate::flip::counts::Tried;
+use crate::flip::layout::edges_at;
+use crate::flip::layout::faces_at;
 use crate::flip::layout::triple_from;
 use crate::flip::three_to_two::try_edge;
 use crate::flip::two_to_three::try_face;
@@ -29,7 +31,7 @@ pub(crate) fn try_faces(work: &mut [u32], x: Index, n: u32, count: usize, points
         → Went x n (FacesBound n) (now (work .entry)) (now (work .exit)) r (tryFaces (measure (pointsOf (x .vertices) (now (points .entry)))) ts s fs)) ⌝ }
     ensures { λ r. ⌜ (r .slots ≤ 131072) × (r .flips ≤ 4 * n) ⌝ }
 {
-    let start = x.lengths + (x.vertices as usize) + 4 * (n as usize);
+    let start = faces_at(x) + 4 * (n as usize);
     let mut t = Tried { slots: n, flips: 0 };
     let mut i = 0;
     while i < count {
@@ -59,7 +61,7 @@ pub(crate) fn try_edges(
         → Went x n (EdgesBound n) (now (work .entry)) (now (work .exit)) r (tryEdges (measure (pointsOf (x .vertices) (now (points .entry)))) s es)) ⌝ }
     ensures { λ r. ⌜ (r .slots ≤ 131072) × (r .flips ≤ 10 * n) ⌝ }
 {
-    let start = x.lengths + (x.vertices as usize) + 48 * (n as usize) + 4 * bad;
+    let start = edges_at(x, n) + 4 * (n as usize) + 4 * bad;
     let mut r = t;
     let mut i = 0;
     while i < count {

@@ -1,5 +1,7 @@
 // A vertex a goes into a vertex b, in the work slice of `improve` (layout.rt): b takes a's place in the slots and a's chain in the
 // index, slots with both are gone, and a is flagged as replaced.
+use crate::layout::flags_at;
+use crate::layout::pairs_at;
 use mesh::element::Tet;
 use mesh::element::has_vertex;
 use mesh::star::GONE;
@@ -80,7 +82,7 @@ fn replace_in_slots(work: &mut [u32], x: Index, p: usize, k: usize, a: u32, b: u
 fn flag(work: &mut [u32], x: Index, a: u32)
     ensures { λ _. ⌜ now (work .exit) ≡ set (now (work .entry)) (flagsAt x + a) 1 ⌝ }
 {
-    put_word(work, 7 * (x.vertices as usize) + (a as usize), 1);
+    put_word(work, flags_at(x) + (a as usize), 1);
 }
 
 // a goes into b. With a itself for b it is flagged only.
@@ -103,7 +105,7 @@ pub(crate) fn replace_all(work: &mut [u32], x: Index, n: u32, k: usize)
     requires { ⌜ Room x n (length (now work)) × (k ≤ x .vertices) ⌝ }
     ensures { λ _. ⌜ AllGo x n k (now (work .entry)) (now (work .exit)) ⌝ }
 {
-    let p = 8 * (x.vertices as usize);
+    let p = pairs_at(x);
     let mut i = k;
     while 0 < i {
         i -= 1;

@@ -1,5 +1,6 @@
 // The edges of a round of `improve`, listed by length. The live elements are listed first, at the front of the area behind the layout
 // (layout.rt), with scratch behind them.
+use crate::layout::edges_at;
 use mesh::about::live_elements;
 use mesh::short::short_edges_in;
 use mesh::star::Index;
@@ -39,11 +40,10 @@ pub(crate) fn list_edges(work: &mut [u32], x: Index, n: u32, points: &[f64], lim
         → edgesIn x r (now (work .exit)) ≡ listedEdges (measure (m .points)) h (s .elements)) ⌝ }
     ensures { λ _. ⌜ Same (now (work .entry)) (now (work .exit)) (edgesAt x) (length (now (work .entry))) ⌝ }
 {
-    let nv = x.vertices as usize;
     let a = x.area;
     let k = live_elements(work, x, n as usize);
     let e = a + 52 * k;
-    let r = short_edges_in(&mut work[a..e], k, points, nv, limit);
-    copy_down(work, a + 4 * k, x.lengths + nv, 4 * r);
+    let r = short_edges_in(&mut work[a..e], k, points, x.vertices as usize, limit);
+    copy_down(work, a + 4 * k, edges_at(x), 4 * r);
     r
 }

@@ -1,4 +1,5 @@
 // What a collapse gains.
+use crate::layout::pairs_at;
 use crate::quality::Tally;
 use crate::quality::element_from;
 use crate::quality::judge;
@@ -27,7 +28,7 @@ fn image(work: &[u32], x: Index, k: usize, v: u32) -> u32
     requires { ⌜ pairsAt x + 2 * k ≤ length (now work) ⌝ }
     ensures { λ r. ⌜ r ≡ image (pairsIn x k (now (work .entry))) v ⌝ }
 {
-    let mut p = 8 * (x.vertices as usize);
+    let mut p = pairs_at(x);
     let mut left = k;
     while 0 < left {
         if word(work, p) == v {
@@ -106,8 +107,7 @@ pub(crate) fn gains(work: &mut [u32], x: Index, n: u32, k: usize, points: &[f64]
         → r ≡ gains (measure (m .points)) (about (pairsIn x k (now (work .entry))) (s .elements)) (collapsed (pairsIn x k (now (work .entry))) (about (pairsIn x k (now (work .entry))) (s .elements)))) ⌝ }
     ensures { λ _. ⌜ Same (now (work .entry)) (now (work .exit)) (x .area) (length (now (work .entry))) ⌝ }
 {
-    let p = 8 * (x.vertices as usize);
-    let c = star_about(work, x, p, 2 * k, 1);
+    let c = star_about(work, x, pairs_at(x), 2 * k, 1);
     elements_at(work, x, c);
     gains_at(work, x, k, x.area + c, c, points)
 }

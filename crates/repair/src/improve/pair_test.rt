@@ -1,5 +1,6 @@
 // A pair's tests. The elements about it are listed at the front of the area behind the layout (layout.rt), with scratch behind them.
 use crate::improve::partners::stratum_rule;
+use crate::layout::pairs_at;
 use geometry::bounds::Bounds;
 use mesh::about::elements_at;
 use mesh::element::Tet;
@@ -100,7 +101,7 @@ pub(crate) fn pair_ok(
     ensures { λ _. ⌜ Same (now (work .entry)) (now (work .exit)) (x .area) (length (now (work .entry))) ⌝ }
 {
     let nv = x.vertices as usize;
-    let i = 8 * nv + 2 * p;
+    let i = pairs_at(x) + 2 * p;
     let a = word(work, i);
     let b = word(work, i + 1);
     if !stratum_rule(masks, parameters, nv, bounds, a, b) {

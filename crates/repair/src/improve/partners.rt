@@ -1,5 +1,9 @@
 // The pairs of a direction of `improve`: each active member of a's group with the first active member of b's group that has its cap.
 // The groups are runs of the sorted rows at the front of the work slice (layout.rt); a member is active until it is replaced.
+use crate::layout::RANK_WORDS;
+use crate::layout::ROW_WORDS;
+use crate::layout::flags_at;
+use crate::layout::pairs_at;
 use geometry::bounds::Bounds;
 use geometry::bounds::Options;
 use geometry::bounds::cap;
@@ -97,7 +101,7 @@ fn group_start(work: &[u32], n: usize, o: Options, parameters: &[f64], v: u32) -
         high_half(r.z),
         low_half(r.z),
     ];
-    first_at_least(work, n, 7, &key)
+    first_at_least(work, n, ROW_WORDS, &key)
 }
 
 // The rows of v's group.
@@ -109,7 +113,7 @@ fn group_of(work: &[u32], x: Index, o: Options, parameters: &[f64], v: u32) -> R
     let first = group_start(work, n, o, parameters, v);
     Run {
         first: first,
-        size: run_length(work, first, n, 7, 6),
+        size: run_length(work, first, n, ROW_WORDS, RANK_WORDS),
     }
 }
 
@@ -118,16 +122,14 @@ fn member(work: &[u32], i: usize) -> u32
     requires { ⌜ i < 4096 ⌝ }
     ensures { λ r. ⌜ r ≡ wordAt (now (work .entry)) (7 * i + 6) ⌝ }
 {
-    word(work, 7 * i + 6)
+    word(work, ROW_WORDS * i + RANK_WORDS)
 }
 
 // Whether v is not replaced.
-fn is_active(work: &[u32], x: Index, v: u32) -> bool
+pub(crate) fn is_active(work: &[u32], x: Index, v: u32) -> bool
     ensures { λ r. ⌜ r ≡ activeIn x (now (work .entry)) v ⌝ }
 {
-    let n = wide(x.vertices);
-    let i = wide(v);
-    word(work, 7 * n + i) == 0
+    word(work, flags_at(x) + (v as usize)) == 0
 }
 
 // The cap of the vertex v of nv.
@@ -198,7 +200,7 @@ fn put_pair(
     if x.vertices <= u {
         return false;
     }
-    let p = 8 * wide(x.vertices);
+    let p = pairs_at(x);
     if is_second(work, p, k, u) {
         return false;
     }

@@ -3,39 +3,31 @@ use crate::improve::collapse::replace_all;
 use crate::improve::gain::gains;
 use crate::improve::pair_test::pair_ok;
 use crate::improve::partners::find_pairs;
+use crate::improve::partners::is_active;
 use crate::improve::partners::stratum_rule;
+use crate::layout::edges_at;
 use geometry::bounds::Options;
 use mesh::element::Pair;
 use mesh::star::Index;
 use mesh::words::word;
 ghost use mathlib.Core.Path.{_≡_};
-ghost use mathlib.Core.Bool.{true, false, not};
+ghost use mathlib.Core.Bool.{true};
 ghost use Prim.Native.Nat.{ℕ, _+_, _*_, _≤_, _<_};
-ghost use lib.Dec.{eqb};
 ghost use lib.ListN.{length};
 ghost use Rattle.mesh.specs.Words.{wordAt};
 ghost use Rattle.mesh.specs.Tests.{every};
 ghost use Rattle.mesh.specs.Measure.{measure};
 ghost use Rattle.repair.specs.Mesh.{Mesh};
 ghost use Rattle.repair.specs.Improve.{State, tryEdges};
-ghost use Rattle.repair.specs.inside.Layout.{Room, Stands, Reads, Ready, flagsAt, edgesAt, edgesIn};
+ghost use Rattle.repair.specs.inside.Layout.{Stands, Reads, Ready, edgesAt, edgesIn};
 ghost use Rattle.repair.specs.inside.improve.Round.{below, wayOf, MayPair};
-
-// Whether the vertex v is replaced.
-fn is_replaced(work: &[u32], x: Index, v: u32) -> bool
-    ensures { λ r. ⌜ r ≡ not (eqb (wordAt (now (work .entry)) (flagsAt x + v)) 0) ⌝ }
-{
-    let n = x.vertices as usize;
-    let i = v as usize;
-    word(work, 7 * n + i) != 0
-}
 
 // The edge i of the round.
 fn edge_at(work: &[u32], x: Index, i: usize) -> Pair
     requires { ⌜ (edgesAt x ≤ 1048576) × (i ≤ 1048576) ⌝ }
     ensures { λ r. ⌜ (r .a ≡ wordAt (now (work .entry)) (edgesAt x + 4 * i + 2)) × (r .b ≡ wordAt (now (work .entry)) (edgesAt x + 4 * i + 3)) ⌝ }
 {
-    let p = x.lengths + (x.vertices as usize) + 4 * i;
+    let p = edges_at(x) + 4 * i;
     Pair {
         a: word(work, p + 2),
         b: word(work, p + 3),
@@ -96,10 +88,10 @@ pub(crate) fn round(
     'edges: while i < count {
         let e = edge_at(work, x, i);
         i += 1;
-        if is_replaced(work, x, e.a) {
+        if !is_active(work, x, e.a) {
             continue 'edges;
         }
-        if is_replaced(work, x, e.b) {
+        if !is_active(work, x, e.b) {
             continue 'edges;
         }
         let mut d = 0;

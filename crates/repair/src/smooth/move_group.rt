@@ -1,4 +1,5 @@
 // A group moved to a point: parameters and points of its vertices.
+use crate::layout::ROW_WORDS;
 use crate::smooth::candidates::kept_on;
 use crate::smooth::map::mapped;
 use crate::smooth::trial_scores::Site;
@@ -55,7 +56,7 @@ pub(crate) fn move_group(
     let mut k = s.count;
     while 0 < k {
         k -= 1;
-        let v = word(work, s.group + 7 * k);
+        let v = word(work, s.group + ROW_WORDS * k);
         move_vertex(o, parameters, points, s.vertices, v, p);
     }
 }

@@ -1,5 +1,6 @@
 // The elements about a group, measured from the points as they are and as they would be with the group moved. The group's vertices stand
-// in sorted rows of 7 words (mesh, group.rt), the last word of each.
+// in sorted rows (mesh, group.rt), the last word of each.
+use crate::layout::ROW_WORDS;
 use crate::smooth::candidates::kept_on;
 use crate::smooth::map::mapped;
 use geometry::bounds::Options;
@@ -153,7 +154,7 @@ pub(crate) fn is_member(work: &[u32], at: usize, count: usize, v: u32) -> bool
         if v == word(work, i) {
             return true;
         }
-        i += 7;
+        i += ROW_WORDS;
         left -= 1;
     }
     false

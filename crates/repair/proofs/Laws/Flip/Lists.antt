@@ -65,11 +65,20 @@ module _ (ps : List Point) (ts : List Tet) where
   unfolding sharedIn sharedFits
   shared-is n s e h g = rw (e, le-leb n 65536 h, le-leb (44 * n) (length s) g) refl
 
-module _ (x : Index) (n : ℕ) (ps : List Point) (els w w₁ p v : List ℕ) (r : ℕ) (room : FlipRoom x n (length w)) (long : 4 * n ≤ length els) (e₁ : w₁ ≡ copied els 0 w (facesAt x) (4 * n))
-    (e₂ : _≡_ {A = Shares} (record { number = r; area = p }) (sharedIn ps n (take (facesAt x + 44 * n - facesAt x) (drop (facesAt x) w₁))))
-    (e₃ : v ≡ take (facesAt x) w₁ ++ (p ++ drop (facesAt x + 44 * n - facesAt x) (drop (facesAt x) w₁))) where
+module _ (x : Index) (n : ℕ) (ps : List Point) (els w w₁ p v : List ℕ) (r : ℕ) (room : FlipRoom x n (length w)) (long : 4 * n ≤ length els) (from to : ℕ) (start : from ≡ facesAt x) (end : to ≡ edgesAt x n)
+    (copy : w₁ ≡ copied els 0 w from (4 * n)) (found : _≡_ {A = Shares} (record { number = r; area = p }) (sharedIn ps n (take (to - from) (drop from w₁))))
+    (put : v ≡ take from w₁ ++ (p ++ drop (to - from) (drop from w₁))) where
+  e₁ : w₁ ≡ copied els 0 w (facesAt x) (4 * n)
+  e₁ = copy ∙ ap (λ (i : ℕ). copied els 0 w i (4 * n)) start
+
   abbrev s : List ℕ
   s = take (facesAt x + 44 * n - facesAt x) (drop (facesAt x) w₁)
+
+  e₂ : _≡_ {A = Shares} (record { number = r; area = p }) (sharedIn ps n s)
+  e₂ = found ∙ ap₂ (λ (i j : ℕ). sharedIn ps n (take (j - i) (drop i w₁))) start end
+
+  e₃ : v ≡ take (facesAt x) w₁ ++ (p ++ drop (facesAt x + 44 * n - facesAt x) (drop (facesAt x) w₁))
+  e₃ = put ∙ ap₂ (λ (i j : ℕ). take i w₁ ++ (p ++ drop (j - i) (drop i w₁))) start end
 
   abbrev ts : List Tet
   ts = tets n els
@@ -152,11 +161,23 @@ module _ (ps : List Point) (ts : List Tet) where
   unfolding listedIn listFits
   edges-are n s e h g = rw (e, le-leb n 65536 h, le-leb (32 * n) (length s) g) refl
 
-module _ (x : Index) (n : ℕ) (ps : List Point) (els w w₁ p v : List ℕ) (r : Listed) (room : FlipRoom x n (length w)) (long : 4 * n ≤ length els) (e₁ : w₁ ≡ copied els 0 w (edgesAt x n) (4 * n))
-    (e₂ : _≡_ {A = Listing} (record { listed = r; area = p }) (listedIn (badEdges ps) ps n (take (edgesAt x n + 32 * n - edgesAt x n) (drop (edgesAt x n) w₁))))
-    (e₃ : v ≡ take (edgesAt x n) w₁ ++ (p ++ drop (edgesAt x n + 32 * n - edgesAt x n) (drop (edgesAt x n) w₁))) where
+module _ (x : Index) (n : ℕ) (ps : List Point) (els w w₁ p v : List ℕ) (r : Listed) (room : FlipRoom x n (length w)) (long : 4 * n ≤ length els) (from : ℕ) (start : from ≡ edgesAt x n)
+    (copy : w₁ ≡ copied els 0 w from (4 * n)) (found : _≡_ {A = Listing} (record { listed = r; area = p }) (listedIn (badEdges ps) ps n (take (x .area - from) (drop from w₁))))
+    (put : v ≡ take from w₁ ++ (p ++ drop (x .area - from) (drop from w₁))) where
+  end : x .area ≡ edgesAt x n + 32 * n
+  end = let a = room .area in omega arith
+
+  f₁ : w₁ ≡ copied els 0 w (edgesAt x n) (4 * n)
+  f₁ = copy ∙ ap (λ (i : ℕ). copied els 0 w i (4 * n)) start
+
   abbrev s₂ : List ℕ
   s₂ = take (edgesAt x n + 32 * n - edgesAt x n) (drop (edgesAt x n) w₁)
+
+  f₂ : _≡_ {A = Listing} (record { listed = r; area = p }) (listedIn (badEdges ps) ps n s₂)
+  f₂ = found ∙ ap₂ (λ (i j : ℕ). listedIn (badEdges ps) ps n (take (j - i) (drop i w₁))) start end
+
+  f₃ : v ≡ take (edgesAt x n) w₁ ++ (p ++ drop (edgesAt x n + 32 * n - edgesAt x n) (drop (edgesAt x n) w₁))
+  f₃ = put ∙ ap₂ (λ (i j : ℕ). take i w₁ ++ (p ++ drop (j - i) (drop i w₁))) start end
 
   abbrev us : List Tet
   us = tets n els
@@ -171,12 +192,12 @@ module _ (x : Index) (n : ℕ) (ps : List Point) (els w w₁ p v : List ℕ) (r 
   fits₂ = let a = room .lengths in let b = room .long in omega arith
 
   s₂-long : length s₂ ≡ 32 * n
-  s₂-long = part-long els w w₁ (edgesAt x n) (32 * n) n long fits₂ (omega arith) e₁
+  s₂-long = part-long els w w₁ (edgesAt x n) (32 * n) n long fits₂ (omega arith) f₁
 
   answer₂ : _≡_ {A = Listing} (record { listed = r; area = p }) (record { listed = record { elements = length (bad ps us); rows = length (badEdges ps us) }; area = take (4 * n) s₂ ++ (es ++ (flat (badEdges ps us) ++ zs)) })
   answer₂ =
       let a = room .elements in let b = s₂-long in
-      e₂ ∙ edges-are ps us n s₂ (part-elements els w w₁ (edgesAt x n) (32 * n) n long fits₂ (omega arith) e₁) (omega arith) (omega arith)
+      f₂ ∙ edges-are ps us n s₂ (part-elements els w w₁ (edgesAt x n) (32 * n) n long fits₂ (omega arith) f₁) (omega arith) (omega arith)
 
   elements₂ : r .elements ≡ length (bad ps us)
   elements₂ = ap (λ (u : Listing). u .listed .elements) answer₂
@@ -215,11 +236,10 @@ module _ (x : Index) (n : ℕ) (ps : List Point) (els w w₁ p v : List ℕ) (r 
 
   pub edges-laid : EdgesLaid x n ps (tets n els) r w v
   edges-laid =
-      let q : edgesAt x n + 32 * n ≡ x .area = (let a = room .area in omega arith) in
       let o : edgesAt x n + (4 * n + 4 * r .elements) ≡ edgesAt x n + 4 * n + 4 * r .elements = omega arith in
       record {
-        same = subst (Same w v (edgesAt x n)) q (part-same els w w₁ (edgesAt x n) (32 * n) n long fits₂ (omega arith) e₁ p v p-long₂ e₃);
-        rows = ap₂ (λ (k i : ℕ). rows 2 k (drop i v)) rows₂ (sym o) ∙ part-rows els w w₁ (edgesAt x n) (32 * n) n long fits₂ (omega arith) e₁ p v p-long₂ e₃ (bad-shape ps us) (take (4 * n) s₂ ++ es) zs area₂ (4 * n + 4 * r .elements) front₂;
+        same = subst (Same w v (edgesAt x n)) (sym end) (part-same els w w₁ (edgesAt x n) (32 * n) n long fits₂ (omega arith) f₁ p v p-long₂ f₃);
+        rows = ap₂ (λ (k i : ℕ). rows 2 k (drop i v)) rows₂ (sym o) ∙ part-rows els w w₁ (edgesAt x n) (32 * n) n long fits₂ (omega arith) f₁ p v p-long₂ f₃ (bad-shape ps us) (take (4 * n) s₂ ++ es) zs area₂ (4 * n + 4 * r .elements) front₂;
         fewBad = few-bad;
         few = few-rows;
       }

@@ -21,7 +21,7 @@ use Rattle.mesh.proofs.Laws.Rows.{length-rows, rows-at}
 use Rattle.mesh.proofs.Laws.Boundary.Same.{length-map}
 use Rattle.repair.specs.declared.flip.counts.Tried.{Tried}
 use Rattle.repair.specs.Flip.{State, tryFace, tryFaces, tryEdge, tryEdges}
-use Rattle.repair.specs.inside.flip.Layout.{FlipRoom, FacesBound, EdgesBound, tripleAt}
+use Rattle.repair.specs.inside.flip.Layout.{FlipRoom, FacesBound, EdgesBound, facesAt, edgesAt, tripleAt}
 use Rattle.repair.specs.inside.flip.Tries.{Holds, Counted, Counts, Went, Start, FaceListed, FacesListed, EdgeListed, EdgesListed, edgeRow, faceRowsAt, edgeRowsAt}
 use Rattle.repair.proofs.Laws.Flip.Layout.{kept-trans}
 
@@ -127,8 +127,8 @@ module _ {x : Index} {n count : ℕ} {ps : List Float} {w₀ : List ℕ} (room :
         let b = q .most in
         reached-end (q .reached ts fs s y) (λ u. refl) (omega arith)
 
-    module _ (h : i < count) where
-      module _ (f : Triple) (a b : ℕ) (ef : f ≡ tripleAt w (faceRowsAt x n + 5 * i)) (ea : a ≡ wordAt w (faceRowsAt x n + 5 * i + 3)) (eb : b ≡ wordAt w (faceRowsAt x n + 5 * i + 4)) where
+    module _ (h : i < count) (from : ℕ) (place : from ≡ facesAt x) where
+      module _ (f : Triple) (a b : ℕ) (ef : f ≡ tripleAt w (from + 4 * n + 5 * i)) (ea : a ≡ wordAt w (from + 4 * n + 5 * i + 3)) (eb : b ≡ wordAt w (from + 4 * n + 5 * i + 4)) where
         module _ (ts : List Tet) (fs : List Triple) (s : State) (y : Faces x n count w₀ ts fs s) where
           abbrev here : Triple
           here = getD fs i (triple 0 0 0)
@@ -140,7 +140,7 @@ module _ {x : Index} {n count : ℕ} {ps : List Float} {w₀ : List ℕ} (room :
               ∙ row-word (sharedRow ts) 5 count (faceRowsAt x n) i w₀ fs (triple 0 0 0) (y .rows) h k j l (omega arith)
 
           face-is : f ≡ here
-          face-is = ef ∙ three (word 0 _ (omega arith) (omega arith)) (word 1 _ (omega arith) refl) (word 2 _ (omega arith) refl)
+          face-is = ef ∙ three (word 0 _ (omega arith) (omega arith)) (word 1 _ (omega arith) (omega arith)) (word 2 _ (omega arith) (omega arith))
             where
               three : {u v r u′ v′ r′ : ℕ} → u ≡ u′ → v ≡ v′ → r ≡ r′ → triple u v r ≡ triple u′ v′ r′
               three {u} {v} {r} {u′} {v′} {r′} c d e = rw (c, d, e) refl
@@ -148,7 +148,7 @@ module _ {x : Index} {n count : ℕ} {ps : List Float} {w₀ : List ℕ} (room :
           listed-here : FaceListed (x .vertices) ts f a b
           listed-here =
               let c = rows-many (sharedRow ts) 5 count (faceRowsAt x n) i w₀ fs (triple 0 0 0) (y .rows) in
-              face-same (x .vertices) ts f here a b _ _ face-is (ea ∙ word 3 _ (omega arith) refl) (eb ∙ word 4 _ (omega arith) refl)
+              face-same (x .vertices) ts f here a b _ _ face-is (ea ∙ word 3 _ (omega arith) (omega arith)) (eb ∙ word 4 _ (omega arith) (omega arith))
               (faces-at (x .vertices) ts (triple 0 0 0) fs i (omega arith) (y .listed))
 
         pub faces-turn : (v : List ℕ) (r : Tried) → length v ≡ length w → Counts t r
@@ -219,7 +219,7 @@ module _ {x : Index} {n bad count : ℕ} {t₀ : Tried} {ps : List Float} {w₀ 
         let b = q .most in
         reached-end (q .reached es s y) (λ u. refl) (omega arith)
 
-    module _ (h : i < count) (e : Pair) (ea : e .a ≡ wordAt w (x .lengths + x .vertices + 48 * n + 4 * bad + 2 * i)) (eb : e .b ≡ wordAt w (x .lengths + x .vertices + 48 * n + 4 * bad + 2 * i + 1)) where
+    module _ (h : i < count) (from : ℕ) (place : from ≡ edgesAt x n) (e : Pair) (ea : e .a ≡ wordAt w (from + 4 * n + 4 * bad + 2 * i)) (eb : e .b ≡ wordAt w (from + 4 * n + 4 * bad + 2 * i + 1)) where
       module _ (es : List Pair) (s : State) (y : Edges x n bad count t₀ w₀ es s) where
         end-word : (k j : ℕ) → k < 2 → j ≡ edgeRowsAt x n bad + 2 * i + k → wordAt w j ≡ wordAt (edgeRow (getD es i (pair 0 0))) k
         end-word k j l c =

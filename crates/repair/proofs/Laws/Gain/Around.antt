@@ -168,15 +168,15 @@ module _ (x : Index) (n k : ℕ) (w : List ℕ) (r : Room x n (length w)) (p : P
   fit : x .area + (entriesOf x w (members (2 * k) (pairsAt x) 1 w) + entriesOf x w (members (2 * k) (pairsAt x) 1 w)) ≤ length w
   fit = omega (arith, entries, area-low)
 
-  pub around : (c : ℕ) (w₁ w₂ : List ℕ) → c ≡ length (aboutList x w (pairsAt x) (2 * k) 1) → w₁ ≡ aboutIn x w (pairsAt x) (2 * k) 1 → w₂ ≡ elementsIn x c w₁
+  pub around : (from c : ℕ) (w₁ w₂ : List ℕ) → from ≡ pairsAt x → c ≡ length (aboutList x w from (2 * k) 1) → w₁ ≡ aboutIn x w from (2 * k) 1 → w₂ ≡ elementsIn x c w₁
       → Around x n k w w₂ c
-  around c w₁ w₂ ec e₁ e₂ =
+  around from c w₁ w₂ place ec e₁ e₂ =
       let l = room-laid r in
       let hn : n ≤ x .room = let a = r .room in omega arith in
       let ts = tets n (drop (x .slots) w) in
       let us = starAll (members (2 * k) (pairsAt x) 1 w) ts in
-      let cu : c ≡ length us = ec ∙ about-count x w n l index (pairsAt x) (2 * k) 1 before below fit in
-      let a = subst (λ (y : List ℕ). Answered w y (x .area) us) (sym e₁) (about-answered x w n l index (pairsAt x) (2 * k) 1 before below fit) in
+      let cu : c ≡ length us = ec ∙ ap (λ (i : ℕ). length (aboutList x w i (2 * k) 1)) place ∙ about-count x w n l index (pairsAt x) (2 * k) 1 before below fit in
+      let a = subst (λ (y : List ℕ). Answered w y (x .area) us) (sym (e₁ ∙ ap (λ (i : ℕ). aboutIn x w i (2 * k) 1) place)) (about-answered x w n l index (pairsAt x) (2 * k) 1 before below fit) in
       let kept = keep (hasOne (members (2 * k) (pairsAt x) 1 w)) ts in
       let ck : c ≡ length kept = cu ∙ about-many (members (2 * k) (pairsAt x) 1 w) ts in
       let few : c ≤ n = omega (arith, ck, keep-few (hasOne (members (2 * k) (pairsAt x) 1 w)) ts, length-tets n (drop (x .slots) w)) in

@@ -84,7 +84,7 @@ module _ (x : Index) (w₀ w : List ℕ) (before : (j : ℕ) → j < pairsAt x �
 
 -- ---- one pair
 
-module _ (o : Options) (m : Mesh) (x : Index) (w : List ℕ) (v : ℕ) (g : Run) (k u n : ℕ) (e : partner o m v (activeOf x w g) ≡ pairedWith (x .vertices) v u) (size : n ≡ x .vertices) where
+module _ (o : Options) (m : Mesh) (x : Index) (w : List ℕ) (v : ℕ) (g : Run) (k u : ℕ) (e : partner o m v (activeOf x w g) ≡ pairedWith (x .vertices) v u) where
   -- what `put_pair` gives and leaves
   abbrev Put : Bool → List ℕ → Type 0
   Put r w′ = (r ≡ isNew (pairsIn x k w) (partner o m v (activeOf x w g))) × (w′ ≡ written w (pairsAt x + 2 * k) (pairWords (cond r (partner o m v (activeOf x w g)) [])))
@@ -102,27 +102,27 @@ module _ (o : Options) (m : Mesh) (x : Index) (w : List ℕ) (v : ℕ) (g : Run)
   partner-is : u < x .vertices → partner o m v (activeOf x w g) ≡ pair v u ∷ []
   partner-is h = e ∙ rw (lt-ltb u (x .vertices) h) refl
 
-  new-is : u < x .vertices → (b : Bool) → b ≡ mem u (seconds (pairsOf k (drop (8 * n) w))) → not b ≡ isNew (pairsIn x k w) (partner o m v (activeOf x w g))
-  new-is h b t = ap not (t ∙ ap (λ (a : ℕ). mem u (seconds (pairsOf k (drop (8 * a) w)))) size) ∙ sym (ap (isNew (pairsIn x k w)) (partner-is h))
+  module _ (at : ℕ) (place : at ≡ pairsAt x) (h : u < x .vertices) (b : Bool) (t : b ≡ mem u (seconds (pairsOf k (drop at w)))) where
+    new-is : not b ≡ isNew (pairsIn x k w) (partner o m v (activeOf x w g))
+    new-is = ap not (t ∙ ap (λ (a : ℕ). mem u (seconds (pairsOf k (drop a w)))) place) ∙ sym (ap (isNew (pairsIn x k w)) (partner-is h))
 
-  -- a partner that is in a pair
-  pub put-old : u < x .vertices → (b : Bool) → b ≡ mem u (seconds (pairsOf k (drop (8 * n) w))) → b ≡ true → Put false w
-  put-old h b t z = (ap not (sym z) ∙ new-is h b t, left-alone)
+    -- a partner that is in a pair
+    pub put-old : b ≡ true → Put false w
+    put-old z = (ap not (sym z) ∙ new-is, left-alone)
 
-  -- a partner that is in none
-  pub put-new : u < x .vertices → pairsAt x + 2 * k + 2 ≤ length w → (b : Bool) → b ≡ mem u (seconds (pairsOf k (drop (8 * n) w))) → b ≡ false
-      → (w₁ w₂ : List ℕ) → w₁ ≡ set w (8 * n + 2 * k) v → w₂ ≡ set w₁ (8 * n + 2 * k + 1) u → Put true w₂
-  unfolding pairWords
-  put-new h l b t z w₁ w₂ p q =
-      let i = pairsAt x + 2 * k in
-      let j : 8 * n + 2 * k ≡ i = ap (λ (a : ℕ). 8 * a + 2 * k) size in
-      let p′ : w₁ ≡ written w i (v ∷ []) = p ∙ ap (λ (a : ℕ). set w a v) j ∙ written-one w i v (omega arith) in
-      let c : length w₁ ≡ length w = ap length p′ ∙ length-written w i (v ∷ []) (omega arith) in (
-        ap not (sym z) ∙ new-is h b t,
-        q ∙ ap (λ (a : ℕ). set w₁ (a + 1) u) j ∙ written-one w₁ (i + 1) u (omega arith)
-            ∙ ap (λ (a : List ℕ). written a (i + 1) (u ∷ [])) p′ ∙ written-more w i (v ∷ []) (omega arith) (u ∷ [])
-            ∙ ap (λ (a : List Pair). written w i (pairWords a)) (sym (partner-is h)),
-      )
+    -- a partner that is in none
+    pub put-new : b ≡ false → pairsAt x + 2 * k + 2 ≤ length w → (w₁ w₂ : List ℕ) → w₁ ≡ set w (at + 2 * k) v → w₂ ≡ set w₁ (at + 2 * k + 1) u → Put true w₂
+    unfolding pairWords
+    put-new z l w₁ w₂ p q =
+        let i = pairsAt x + 2 * k in
+        let j : at + 2 * k ≡ i = ap (λ (a : ℕ). a + 2 * k) place in
+        let p′ : w₁ ≡ written w i (v ∷ []) = p ∙ ap (λ (a : ℕ). set w a v) j ∙ written-one w i v (omega arith) in
+        let c : length w₁ ≡ length w = ap length p′ ∙ length-written w i (v ∷ []) (omega arith) in (
+          ap not (sym z) ∙ new-is,
+          q ∙ ap (λ (a : ℕ). set w₁ (a + 1) u) j ∙ written-one w₁ (i + 1) u (omega arith)
+              ∙ ap (λ (a : List ℕ). written a (i + 1) (u ∷ [])) p′ ∙ written-more w i (v ∷ []) (omega arith) (u ∷ [])
+              ∙ ap (λ (a : List Pair). written w i (pairWords a)) (sym (partner-is h)),
+        )
 
 -- ---- the loop
 

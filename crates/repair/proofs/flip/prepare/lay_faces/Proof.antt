@@ -7,17 +7,11 @@ use borrow.Author.Needs.{needs}
 use Rattle.repair.proofs.flip.prepare.lay_faces.Statement.{statement}
 use Rattle.repair.proofs.flip.prepare.lay_faces.Tie as tie
 
-cast-nv : tie.Need-cast-nv
-cast-nv c = search needs
+faces-at-requires : tie.Need-faces-at-requires
+faces-at-requires c κs = search needs
 
-add-k : tie.Need-add-k
-add-k c = search needs
-
-mul-e : tie.Need-mul-e
-mul-e c = search needs
-
-add-e : tie.Need-add-e
-add-e c = search needs
+edges-at-requires : tie.Need-edges-at-requires
+edges-at-requires c κs = search needs
 
 mul-copy-into : tie.Need-mul-copy-into
 mul-copy-into c = search needs
@@ -37,6 +31,9 @@ part-shared-faces-in-start c = search needs
 part-shared-faces-in-end : tie.Need-part-shared-faces-in-end
 part-shared-faces-in-end c = let r = c .before .before .before .before .before .before .before .before .before .pre .0 in let a = r .lengths in let b = r .long in omega arith
 
+cast-shared-faces-in : tie.Need-cast-shared-faces-in
+cast-shared-faces-in c = search needs
+
 shared-faces-in-requires : tie.Need-shared-faces-in-requires
 shared-faces-in-requires c κs = search needs
 
@@ -44,22 +41,21 @@ same-length : tie.Need-same-length
 same-length c = search needs
 
 returns : tie.Need-returns
-returns c = faces-laid (c .before .before .before .before .before .before .before .before .before .before .before .before .before .args .x) (c .before .before .before .before .before .before .before .before .before .before .before .before .before .args .n) (pointsOf (c .before .before .before .before .before .before .before .before .before .before .before .before .before .args .x .vertices) (c .before .before .before .before .before .before .before .before .before .before .before .before .before .args .points .now)) (c .before .before .before .before .before .before .before .before .before .before .before .before .before .args .elements .now) (c .before .before .before .before .before .before .before .before .before .before .before .before .before .args .work .now) (c .before .before .before .before .before .before .copy-into .last .1 .1 .0) (c .before .before .shared-faces-in .last .0) _ (c .before .before .shared-faces-in .result) (c .before .before .before .before .before .before .before .before .before .before .before .before .before .pre .0) (c .before .before .before .before .before .before .before .before .before .before .before .before .before .pre .1) (c .before .before .before .before .before .before .copy-into .ensures) (c .before .before .shared-faces-in .ensures) refl
+returns c = faces-laid (c .before .before .before .before .before .before .before .before .before .before .before .before .before .before .args .x) (c .before .before .before .before .before .before .before .before .before .before .before .before .before .before .args .n) (pointsOf (c .before .before .before .before .before .before .before .before .before .before .before .before .before .before .args .x .vertices) (c .before .before .before .before .before .before .before .before .before .before .before .before .before .before .args .points .now)) (c .before .before .before .before .before .before .before .before .before .before .before .before .before .before .args .elements .now) (c .before .before .before .before .before .before .before .before .before .before .before .before .before .before .args .work .now) (c .before .before .before .before .before .before .before .copy-into .last .1 .1 .0) (c .before .before .shared-faces-in .last .0) _ (c .before .before .shared-faces-in .result) (c .before .before .before .before .before .before .before .before .before .before .before .before .before .before .pre .0) (c .before .before .before .before .before .before .before .before .before .before .before .before .before .before .pre .1) _ _ (c .before .before .before .before .before .before .before .before .before .before .faces-at .ensures) (c .before .before .before .before .before .before .before .before .before .edges-at .ensures) (c .before .before .before .before .before .before .before .copy-into .ensures) (c .before .before .shared-faces-in .ensures) refl
 
 pub lay-faces-spec : {M : Type 1} → statement M
 lay-faces-spec =
     tie.close
     (tie.spec
-    cast-nv
-    add-k
-    mul-e
-    add-e
+    faces-at-requires
+    edges-at-requires
     mul-copy-into
     copy-into-requires
     mul-shared-faces-in
     sub-shared-faces-in
     part-shared-faces-in-start
     part-shared-faces-in-end
+    cast-shared-faces-in
     shared-faces-in-requires
     same-length
     returns)

@@ -15,11 +15,8 @@ Inv-loop work₀ x n k p i₀ work i = (i ≤ k) × (length work ≡ length work
 abbrev μ-loop : tie.MeasureT-loop
 μ-loop work₀ x n k p i₀ work i = i
 
-cast-p : tie.Need-cast-p Inv-loop μ-loop
-cast-p c = search needs
-
-mul-p : tie.Need-mul-p Inv-loop μ-loop
-mul-p c = search needs
+pairs-at-requires : tie.Need-pairs-at-requires Inv-loop μ-loop
+pairs-at-requires c κs = search needs
 
 loop-holds : tie.Need-loop-holds Inv-loop μ-loop
 loop-holds c = (omega arith, refl, left-start (c .before .before .args .x) (c .before .before .args .n) (c .before .before .args .k) (c .before .before .args .work .now))
@@ -55,7 +52,7 @@ loop-less : tie.Need-loop-less Inv-loop μ-loop
 loop-less c = search needs
 
 loop-again : tie.Need-loop-again Inv-loop μ-loop
-loop-again c = (omega arith, c .before .before .replace-one .kept .0 ∙ c .before .before .before .before .before .before .before .before .before .loop .inv .1, left-turn (c .before .before .before .before .before .before .before .before .before .before .before .before .args .x) (c .before .before .before .before .before .before .before .before .before .before .before .before .args .n) (c .before .before .before .before .before .before .before .before .before .before .before .before .args .k) (c .before .before .before .before .before .before .before .before .before .before .before .before .args .work .now) (c .before .before .before .before .before .before .before .before .before .loop .work) (c .before .before .before .before .before .before .before .before .before .loop .i) (c .before .before .before .before .before .before .before .before .before .before .before .before .pre .1) (c .before .before .before .before .before .before .before .before .before .loop .inv .2) (c .before .before .before .before .before .before .before .before .loop-test .taken) (c .before .before .before .before .before .before .before .before .before .loop .inv .0) _ _ _ (c .before .before .before .before .before .before .word .ensures) (c .before .before .before .before .word2 .ensures) (c .before .before .replace-one .ensures))
+loop-again c = (omega arith, c .before .before .replace-one .kept .0 ∙ c .before .before .before .before .before .before .before .before .before .loop .inv .1, left-turn (c .before .before .before .before .before .before .before .before .before .before .before .before .args .x) (c .before .before .before .before .before .before .before .before .before .before .before .before .args .n) (c .before .before .before .before .before .before .before .before .before .before .before .before .args .k) (c .before .before .before .before .before .before .before .before .before .before .before .before .args .work .now) (c .before .before .before .before .before .before .before .before .before .loop .work) (c .before .before .before .before .before .before .before .before .before .loop .i) (c .before .before .before .before .before .before .before .before .before .before .before .before .pre .1) (c .before .before .before .before .before .before .before .before .before .loop .inv .2) (c .before .before .before .before .before .before .before .before .loop-test .taken) (c .before .before .before .before .before .before .before .before .before .loop .inv .0) _ _ _ (rw (c .before .before .before .before .before .before .before .before .before .before .pairs-at .ensures) at (c .before .before .before .before .before .before .word .ensures)) (rw (c .before .before .before .before .before .before .before .before .before .before .pairs-at .ensures) at (c .before .before .before .before .word2 .ensures)) (c .before .before .replace-one .ensures))
 
 same-length : tie.Need-same-length Inv-loop μ-loop
 same-length c = c .before .loop .inv .1
@@ -69,8 +66,7 @@ replace-all-spec =
     (tie.spec
     Inv-loop
     μ-loop
-    cast-p
-    mul-p
+    pairs-at-requires
     loop-holds
     sub-i
     mul-word

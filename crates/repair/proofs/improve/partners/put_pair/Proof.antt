@@ -2,7 +2,7 @@
 use Rattle.mesh.specs.Words.{pointsOf}
 use Rattle.repair.specs.inside.improve.Partners.{only}
 use Rattle.repair.proofs.Laws.Pairs.Pairing.{put-none, put-old, put-new}
-use mathlib.Core.Path.{refl, _∙_}
+use mathlib.Core.Path.{_∙_}
 use borrow.Author.Needs.{needs}
 use Rattle.repair.proofs.improve.partners.put_pair.Statement.{statement}
 use Rattle.repair.proofs.improve.partners.put_pair.Tie as tie
@@ -14,13 +14,10 @@ same-length : tie.Need-same-length
 same-length c = search needs
 
 returns : tie.Need-returns
-returns c = put-none (c .before .before .before .before .before .before .args .o) (only (pointsOf (c .before .before .before .before .before .before .args .x .vertices) (c .before .before .before .before .before .before .args .parameters .now))) (c .before .before .before .before .before .before .args .x) (c .before .before .before .before .before .before .args .work .now) (c .before .before .before .before .before .before .args .v) (c .before .before .before .before .before .before .args .g) (c .before .before .before .before .before .before .args .k) (c .before .before .find-partner .result) (c .before .before .before .before .before .before .args .x .vertices) (c .before .before .find-partner .ensures) refl (c .if1 .taken)
+returns c = put-none (c .before .before .before .before .before .before .args .o) (only (pointsOf (c .before .before .before .before .before .before .args .x .vertices) (c .before .before .before .before .before .before .args .parameters .now))) (c .before .before .before .before .before .before .args .x) (c .before .before .before .before .before .before .args .work .now) (c .before .before .before .before .before .before .args .v) (c .before .before .before .before .before .before .args .g) (c .before .before .before .before .before .before .args .k) (c .before .before .find-partner .result) (c .before .before .find-partner .ensures) (c .if1 .taken)
 
-wide-requires : tie.Need-wide-requires
-wide-requires c κs = search needs
-
-mul-p : tie.Need-mul-p
-mul-p c = search needs
+pairs-at-requires : tie.Need-pairs-at-requires
+pairs-at-requires c κs = search needs
 
 is-second-requires : tie.Need-is-second-requires
 is-second-requires c κs = search needs
@@ -29,7 +26,7 @@ same-length-2 : tie.Need-same-length-2
 same-length-2 c = search needs
 
 returns-2 : tie.Need-returns-2
-returns-2 c = put-old (c .before .before .before .before .before .before .before .before .before .before .args .o) (only (pointsOf (c .before .before .before .before .before .before .before .before .before .before .args .x .vertices) (c .before .before .before .before .before .before .before .before .before .before .args .parameters .now))) (c .before .before .before .before .before .before .before .before .before .before .args .x) (c .before .before .before .before .before .before .before .before .before .before .args .work .now) (c .before .before .before .before .before .before .before .before .before .before .args .v) (c .before .before .before .before .before .before .before .before .before .before .args .g) (c .before .before .before .before .before .before .before .before .before .before .args .k) (c .before .before .before .before .before .before .find-partner .result) (c .before .before .before .wide .result) (c .before .before .before .before .before .before .find-partner .ensures) (c .before .before .before .wide .ensures .0) (c .before .before .before .before .if1 .left) (c .before .is-second .result) (c .before .is-second .ensures) (c .if2 .taken)
+returns-2 c = put-old (c .before .before .before .before .before .before .before .before .before .before .args .o) (only (pointsOf (c .before .before .before .before .before .before .before .before .before .before .args .x .vertices) (c .before .before .before .before .before .before .before .before .before .before .args .parameters .now))) (c .before .before .before .before .before .before .before .before .before .before .args .x) (c .before .before .before .before .before .before .before .before .before .before .args .work .now) (c .before .before .before .before .before .before .before .before .before .before .args .v) (c .before .before .before .before .before .before .before .before .before .before .args .g) (c .before .before .before .before .before .before .before .before .before .before .args .k) (c .before .before .before .before .before .before .find-partner .result) (c .before .before .before .before .before .before .find-partner .ensures) (c .before .before .before .pairs-at .result) (c .before .before .before .pairs-at .ensures) (c .before .before .before .before .if1 .left) (c .before .is-second .result) (c .before .is-second .ensures) (c .if2 .taken)
 
 mul-put-word : tie.Need-mul-put-word
 mul-put-word c = search needs
@@ -56,7 +53,7 @@ same-length-3 : tie.Need-same-length-3
 same-length-3 c = c .before .before .put-word2 .kept .0 ∙ c .before .before .before .before .before .before .put-word .kept .0
 
 returns-3 : tie.Need-returns-3
-returns-3 c = put-new (c .before .before .before .before .before .before .before .before .before .before .before .before .before .before .before .before .before .before .args .o) (only (pointsOf (c .before .before .before .before .before .before .before .before .before .before .before .before .before .before .before .before .before .before .args .x .vertices) (c .before .before .before .before .before .before .before .before .before .before .before .before .before .before .before .before .before .before .args .parameters .now))) (c .before .before .before .before .before .before .before .before .before .before .before .before .before .before .before .before .before .before .args .x) (c .before .before .before .before .before .before .before .before .before .before .before .before .before .before .before .before .before .before .args .work .now) (c .before .before .before .before .before .before .before .before .before .before .before .before .before .before .before .before .before .before .args .v) (c .before .before .before .before .before .before .before .before .before .before .before .before .before .before .before .before .before .before .args .g) (c .before .before .before .before .before .before .before .before .before .before .before .before .before .before .before .before .before .before .args .k) (c .before .before .before .before .before .before .before .before .before .before .before .before .before .before .find-partner .result) (c .before .before .before .before .before .before .before .before .before .before .before .wide .result) (c .before .before .before .before .before .before .before .before .before .before .before .before .before .before .find-partner .ensures) (c .before .before .before .before .before .before .before .before .before .before .before .wide .ensures .0) (c .before .before .before .before .before .before .before .before .before .before .before .before .if1 .left) (c .before .before .before .before .before .before .before .before .before .before .before .before .before .before .before .before .before .before .pre .2) (c .before .before .before .before .before .before .before .before .before .is-second .result) (c .before .before .before .before .before .before .before .before .before .is-second .ensures) (c .before .before .before .before .before .before .before .before .if2 .left) (c .before .before .before .before .before .before .put-word .last .0) (c .before .before .put-word2 .last .0) (c .before .before .before .before .before .before .put-word .ensures) (c .before .before .put-word2 .ensures)
+returns-3 c = put-new (c .before .before .before .before .before .before .before .before .before .before .before .before .before .before .before .before .before .before .args .o) (only (pointsOf (c .before .before .before .before .before .before .before .before .before .before .before .before .before .before .before .before .before .before .args .x .vertices) (c .before .before .before .before .before .before .before .before .before .before .before .before .before .before .before .before .before .before .args .parameters .now))) (c .before .before .before .before .before .before .before .before .before .before .before .before .before .before .before .before .before .before .args .x) (c .before .before .before .before .before .before .before .before .before .before .before .before .before .before .before .before .before .before .args .work .now) (c .before .before .before .before .before .before .before .before .before .before .before .before .before .before .before .before .before .before .args .v) (c .before .before .before .before .before .before .before .before .before .before .before .before .before .before .before .before .before .before .args .g) (c .before .before .before .before .before .before .before .before .before .before .before .before .before .before .before .before .before .before .args .k) (c .before .before .before .before .before .before .before .before .before .before .before .before .before .before .find-partner .result) (c .before .before .before .before .before .before .before .before .before .before .before .before .before .before .find-partner .ensures) (c .before .before .before .before .before .before .before .before .before .before .before .pairs-at .result) (c .before .before .before .before .before .before .before .before .before .before .before .pairs-at .ensures) (c .before .before .before .before .before .before .before .before .before .before .before .before .if1 .left) (c .before .before .before .before .before .before .before .before .before .is-second .result) (c .before .before .before .before .before .before .before .before .before .is-second .ensures) (c .before .before .before .before .before .before .before .before .if2 .left) (c .before .before .before .before .before .before .before .before .before .before .before .before .before .before .before .before .before .before .pre .2) (c .before .before .before .before .before .before .put-word .last .0) (c .before .before .put-word2 .last .0) (c .before .before .before .before .before .before .put-word .ensures) (c .before .before .put-word2 .ensures)
 
 pub put-pair-spec : {M : Type 1} → statement M
 put-pair-spec =
@@ -65,8 +62,7 @@ put-pair-spec =
     find-partner-requires
     same-length
     returns
-    wide-requires
-    mul-p
+    pairs-at-requires
     is-second-requires
     same-length-2
     returns-2

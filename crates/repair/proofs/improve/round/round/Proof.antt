@@ -4,8 +4,7 @@ use Prim.Native.Nat.{ℕ, _+_, _-_, _<_}
 use native.Mathlib.Omega.{arith}
 use mathlib.Core.Path.{refl, sym, subst, _∙_}
 use mathlib.Core.List.{List}
-use lib.Dec.{eqb}
-use borrow.Author.Tests.{not-true, not-false, eqb-true, eqb-false}
+use borrow.Author.Tests.{not-true, not-false}
 use Rattle.repair.specs.Mesh.{Mesh}
 use Rattle.repair.specs.Improve.{State}
 use Rattle.repair.specs.inside.Layout.{Room, Stands, Reads}
@@ -44,26 +43,26 @@ edge-at-requires c κs = edge-bounds _ _ _ _ _ _ _ _ _ _ _ (c .before .before .e
 add-i : tie.Need-add-i Inv-loop μ-loop Inv-directions μ-directions Inv-edges μ-edges
 add-i c = search needs
 
-is-replaced-requires :
-    tie.Need-is-replaced-requires Inv-loop μ-loop Inv-directions μ-directions Inv-edges μ-edges
-is-replaced-requires c κs = search needs
+is-active-requires :
+    tie.Need-is-active-requires Inv-loop μ-loop Inv-directions μ-directions Inv-edges μ-edges
+is-active-requires c κs = search needs
 
 edges-less : tie.Need-edges-less Inv-loop μ-loop Inv-directions μ-directions Inv-edges μ-edges
 edges-less c = search needs
 
 edges-again : tie.Need-edges-again Inv-loop μ-loop Inv-directions μ-directions Inv-edges μ-edges
-edges-again c = edges-first _ _ _ _ _ _ _ _ _ _ _ _ (c .before .before .before .before .before .before .edges .inv) (c .before .before .before .before .before .edges-test .taken) (c .before .before .before .edge-at .ensures .0) (c .before .before .before .edge-at .ensures .1) (sym (c .before .is-replaced .ensures) ∙ c .if1 .taken)
+edges-again c = edges-first _ _ _ _ _ _ _ _ _ _ _ _ (c .before .before .before .before .before .before .edges .inv) (c .before .before .before .before .before .edges-test .taken) (c .before .before .before .edge-at .ensures .0) (c .before .before .before .edge-at .ensures .1) (sym (c .before .is-active .ensures) ∙ not-true _ (c .if1 .taken))
 
-is-replaced-requires-2 :
-    tie.Need-is-replaced-requires-2 Inv-loop μ-loop Inv-directions μ-directions Inv-edges μ-edges
-is-replaced-requires-2 c κs = search needs
+is-active-requires-2 :
+    tie.Need-is-active-requires-2 Inv-loop μ-loop Inv-directions μ-directions Inv-edges μ-edges
+is-active-requires-2 c κs = search needs
 
 edges-less-2 : tie.Need-edges-less-2 Inv-loop μ-loop Inv-directions μ-directions Inv-edges μ-edges
 edges-less-2 c = search needs
 
 edges-again-2 :
     tie.Need-edges-again-2 Inv-loop μ-loop Inv-directions μ-directions Inv-edges μ-edges
-edges-again-2 c = edges-second _ _ _ _ _ _ _ _ _ _ _ _ (c .before .before .before .before .before .before .before .before .before .edges .inv) (c .before .before .before .before .before .before .before .before .edges-test .taken) (c .before .before .before .before .before .before .edge-at .ensures .0) (c .before .before .before .before .before .before .edge-at .ensures .1) (sym (c .before .is-replaced2 .ensures) ∙ c .if2 .taken)
+edges-again-2 c = edges-second _ _ _ _ _ _ _ _ _ _ _ _ (c .before .before .before .before .before .before .before .before .before .edges .inv) (c .before .before .before .before .before .before .before .before .edges-test .taken) (c .before .before .before .before .before .before .edge-at .ensures .0) (c .before .before .before .before .before .before .edge-at .ensures .1) (sym (c .before .is-active2 .ensures) ∙ not-true _ (c .if2 .taken))
 
 directions-holds :
     tie.Need-directions-holds Inv-loop μ-loop Inv-directions μ-directions Inv-edges μ-edges
@@ -74,7 +73,7 @@ edges-less-3 c = search needs
 
 edges-again-3 :
     tie.Need-edges-again-3 Inv-loop μ-loop Inv-directions μ-directions Inv-edges μ-edges
-edges-again-3 c = ways-end _ _ _ _ _ _ _ _ _ _ _ _ _ ((c .before .directions .inv) _ (ways-start _ _ _ _ _ _ _ _ _ _ _ _ (c .before .before .before .before .before .before .before .before .before .before .before .edges .inv) (c .before .before .before .before .before .before .before .before .before .before .edges-test .taken) (c .before .before .before .before .before .before .before .before .edge-at .ensures .0) (c .before .before .before .before .before .before .before .before .edge-at .ensures .1) (sym (c .before .before .before .before .before .before .is-replaced .ensures) ∙ c .before .before .before .before .before .if1 .left) (sym (c .before .before .before .is-replaced2 .ensures) ∙ c .before .before .if2 .left))) (c .directions-test .left)
+edges-again-3 c = ways-end _ _ _ _ _ _ _ _ _ _ _ _ _ ((c .before .directions .inv) _ (ways-start _ _ _ _ _ _ _ _ _ _ _ _ (c .before .before .before .before .before .before .before .before .before .before .before .edges .inv) (c .before .before .before .before .before .before .before .before .before .before .edges-test .taken) (c .before .before .before .before .before .before .before .before .edge-at .ensures .0) (c .before .before .before .before .before .before .before .before .edge-at .ensures .1) (sym (c .before .before .before .before .before .before .is-active .ensures) ∙ not-false _ (c .before .before .before .before .before .if1 .left)) (sym (c .before .before .before .is-active2 .ensures) ∙ not-false _ (c .before .before .if2 .left)))) (c .directions-test .left)
 
 add-d : tie.Need-add-d Inv-loop μ-loop Inv-directions μ-directions Inv-edges μ-edges
 add-d c = search needs
@@ -84,7 +83,7 @@ way-requires c κs = search needs
 
 may-pair-requires :
     tie.Need-may-pair-requires Inv-loop μ-loop Inv-directions μ-directions Inv-edges μ-edges
-may-pair-requires c κs = (ways-ready _ _ _ _ _ _ _ _ _ _ _ _ _ ((c .before .before .before .directions .inv) _ (ways-start _ _ _ _ _ _ _ _ _ _ _ _ (c .before .before .before .before .before .before .before .before .before .before .before .before .before .edges .inv) (c .before .before .before .before .before .before .before .before .before .before .before .before .edges-test .taken) (c .before .before .before .before .before .before .before .before .before .before .edge-at .ensures .0) (c .before .before .before .before .before .before .before .before .before .before .edge-at .ensures .1) (sym (c .before .before .before .before .before .before .before .before .is-replaced .ensures) ∙ c .before .before .before .before .before .before .before .if1 .left) (sym (c .before .before .before .before .before .is-replaced2 .ensures) ∙ c .before .before .before .before .if2 .left))), subst (λ t. t .a < c .before .before .before .before .before .before .before .before .before .before .before .before .before .before .before .before .before .before .args .x .vertices) (sym (c .before .way .ensures)) (ways-below _ _ _ _ _ _ _ _ _ _ _ _ _ ((c .before .before .before .directions .inv) _ (ways-start _ _ _ _ _ _ _ _ _ _ _ _ (c .before .before .before .before .before .before .before .before .before .before .before .before .before .edges .inv) (c .before .before .before .before .before .before .before .before .before .before .before .before .edges-test .taken) (c .before .before .before .before .before .before .before .before .before .before .edge-at .ensures .0) (c .before .before .before .before .before .before .before .before .before .before .edge-at .ensures .1) (sym (c .before .before .before .before .before .before .before .before .is-replaced .ensures) ∙ c .before .before .before .before .before .before .before .if1 .left) (sym (c .before .before .before .before .before .is-replaced2 .ensures) ∙ c .before .before .before .before .if2 .left))) (c .before .before .before .directions .d + 1) .0), subst (λ t. t .b < c .before .before .before .before .before .before .before .before .before .before .before .before .before .before .before .before .before .before .args .x .vertices) (sym (c .before .way .ensures)) (ways-below _ _ _ _ _ _ _ _ _ _ _ _ _ ((c .before .before .before .directions .inv) _ (ways-start _ _ _ _ _ _ _ _ _ _ _ _ (c .before .before .before .before .before .before .before .before .before .before .before .before .before .edges .inv) (c .before .before .before .before .before .before .before .before .before .before .before .before .edges-test .taken) (c .before .before .before .before .before .before .before .before .before .before .edge-at .ensures .0) (c .before .before .before .before .before .before .before .before .before .before .edge-at .ensures .1) (sym (c .before .before .before .before .before .before .before .before .is-replaced .ensures) ∙ c .before .before .before .before .before .before .before .if1 .left) (sym (c .before .before .before .before .before .is-replaced2 .ensures) ∙ c .before .before .before .before .if2 .left))) (c .before .before .before .directions .d + 1) .1))
+may-pair-requires c κs = (ways-ready _ _ _ _ _ _ _ _ _ _ _ _ _ ((c .before .before .before .directions .inv) _ (ways-start _ _ _ _ _ _ _ _ _ _ _ _ (c .before .before .before .before .before .before .before .before .before .before .before .before .before .edges .inv) (c .before .before .before .before .before .before .before .before .before .before .before .before .edges-test .taken) (c .before .before .before .before .before .before .before .before .before .before .edge-at .ensures .0) (c .before .before .before .before .before .before .before .before .before .before .edge-at .ensures .1) (sym (c .before .before .before .before .before .before .before .before .is-active .ensures) ∙ not-false _ (c .before .before .before .before .before .before .before .if1 .left)) (sym (c .before .before .before .before .before .is-active2 .ensures) ∙ not-false _ (c .before .before .before .before .if2 .left)))), subst (λ t. t .a < c .before .before .before .before .before .before .before .before .before .before .before .before .before .before .before .before .before .before .args .x .vertices) (sym (c .before .way .ensures)) (ways-below _ _ _ _ _ _ _ _ _ _ _ _ _ ((c .before .before .before .directions .inv) _ (ways-start _ _ _ _ _ _ _ _ _ _ _ _ (c .before .before .before .before .before .before .before .before .before .before .before .before .before .edges .inv) (c .before .before .before .before .before .before .before .before .before .before .before .before .edges-test .taken) (c .before .before .before .before .before .before .before .before .before .before .edge-at .ensures .0) (c .before .before .before .before .before .before .before .before .before .before .edge-at .ensures .1) (sym (c .before .before .before .before .before .before .before .before .is-active .ensures) ∙ not-false _ (c .before .before .before .before .before .before .before .if1 .left)) (sym (c .before .before .before .before .before .is-active2 .ensures) ∙ not-false _ (c .before .before .before .before .if2 .left)))) (c .before .before .before .directions .d + 1) .0), subst (λ t. t .b < c .before .before .before .before .before .before .before .before .before .before .before .before .before .before .before .before .before .before .args .x .vertices) (sym (c .before .way .ensures)) (ways-below _ _ _ _ _ _ _ _ _ _ _ _ _ ((c .before .before .before .directions .inv) _ (ways-start _ _ _ _ _ _ _ _ _ _ _ _ (c .before .before .before .before .before .before .before .before .before .before .before .before .before .edges .inv) (c .before .before .before .before .before .before .before .before .before .before .before .before .edges-test .taken) (c .before .before .before .before .before .before .before .before .before .before .edge-at .ensures .0) (c .before .before .before .before .before .before .before .before .before .before .edge-at .ensures .1) (sym (c .before .before .before .before .before .before .before .before .is-active .ensures) ∙ not-false _ (c .before .before .before .before .before .before .before .if1 .left)) (sym (c .before .before .before .before .before .is-active2 .ensures) ∙ not-false _ (c .before .before .before .before .if2 .left)))) (c .before .before .before .directions .d + 1) .1))
 
 directions-less :
     tie.Need-directions-less Inv-loop μ-loop Inv-directions μ-directions Inv-edges μ-edges
@@ -99,7 +98,7 @@ loop-holds c = λ w h. h
 
 pair-ok-requires :
     tie.Need-pair-ok-requires Inv-loop μ-loop Inv-directions μ-directions Inv-edges μ-edges
-pair-ok-requires c κs = let h = ((c .before .before .loop .inv) _ (pairs-start _ _ _ _ _ _ _ _ _ _ _ _ _ ((c .before .before .before .before .before .before .before .before .before .before .directions .inv) _ (ways-start _ _ _ _ _ _ _ _ _ _ _ _ (c .before .before .before .before .before .before .before .before .before .before .before .before .before .before .before .before .before .before .before .before .edges .inv) (c .before .before .before .before .before .before .before .before .before .before .before .before .before .before .before .before .before .before .before .edges-test .taken) (c .before .before .before .before .before .before .before .before .before .before .before .before .before .before .before .before .before .edge-at .ensures .0) (c .before .before .before .before .before .before .before .before .before .before .before .before .before .before .before .before .before .edge-at .ensures .1) (sym (c .before .before .before .before .before .before .before .before .before .before .before .before .before .before .before .is-replaced .ensures) ∙ c .before .before .before .before .before .before .before .before .before .before .before .before .before .before .if1 .left) (sym (c .before .before .before .before .before .before .before .before .before .before .before .before .is-replaced2 .ensures) ∙ c .before .before .before .before .before .before .before .before .before .before .before .if2 .left))) _ _ (c .before .before .before .before .before .before .before .before .before .directions-test .taken) (subst (λ t. (m : Mesh) (s : State) → Reads m (c .before .before .before .before .before .before .before .before .before .before .before .before .before .before .before .before .before .before .before .before .before .before .before .before .before .args .x .vertices) (c .before .before .before .before .before .before .before .before .before .before .before .before .before .before .before .before .before .before .before .before .before .before .before .before .before .args .parameters .now) (c .before .before .before .before .before .before .before .before .before .before .before .before .before .before .before .before .before .before .before .before .before .before .before .before .before .args .points .now) (c .before .before .before .before .before .before .before .before .before .before .before .before .before .before .before .before .before .before .before .before .before .before .before .before .before .args .masks .now) → Stands (c .before .before .before .before .before .before .before .before .before .before .before .before .before .before .before .before .before .before .before .before .before .before .before .before .before .args .o) m (c .before .before .before .before .before .before .before .before .before .before .before .before .before .before .before .before .before .before .before .before .before .before .before .before .before .args .x) (c .before .before .before .before .before .before .before .before .before .before .before .before .before .before .before .before .before .before .before .before .before .before .before .before .before .args .n) (c .before .before .before .before .before .before .before .before .before .before .directions .work) s → MayPair (c .before .before .before .before .before .before .before .before .before .before .before .before .before .before .before .before .before .before .before .before .before .before .before .before .before .args .o) m (c .before .before .before .before .before .before .before .before .before .before .before .before .before .before .before .before .before .before .before .before .before .before .before .before .before .args .x) (c .before .before .before .before .before .before .before .before .before .before .before .before .before .before .before .before .before .before .before .before .before .before .before .before .before .args .n) s (t .a) (t .b) (c .before .before .before .before .before .before .before .before .before .before .directions .work) (c .before .before .before .before .before .before .may-pair .last .0) (c .before .before .before .before .before .before .may-pair .result)) (c .before .before .before .before .before .before .before .before .way .ensures) (c .before .before .before .before .before .before .may-pair .ensures)) (above-none _ (c .before .before .before .if3 .left)))) in ((pairs-room _ _ _ _ _ _ _ _ _ _ _ _ _ _ _ h, (let a = h .most in let b = c .before .loop-test .taken in omega arith), pair-below _ _ _ _ _ _ _ _ _ _ _ _ _ _ _ h (c .before .loop-test .taken) .0, pair-below _ _ _ _ _ _ _ _ _ _ _ _ _ _ _ h (c .before .loop-test .taken) .1), (c .before .before .before .before .before .before .before .before .before .before .before .before .before .before .before .before .before .before .before .before .before .before .before .before .before .args .o, pairs-ready _ _ _ _ _ _ _ _ _ _ _ _ _ _ _ h .0, pairs-ready _ _ _ _ _ _ _ _ _ _ _ _ _ _ _ h .1, pairs-ready _ _ _ _ _ _ _ _ _ _ _ _ _ _ _ h .3))
+pair-ok-requires c κs = let h = ((c .before .before .loop .inv) _ (pairs-start _ _ _ _ _ _ _ _ _ _ _ _ _ ((c .before .before .before .before .before .before .before .before .before .before .directions .inv) _ (ways-start _ _ _ _ _ _ _ _ _ _ _ _ (c .before .before .before .before .before .before .before .before .before .before .before .before .before .before .before .before .before .before .before .before .edges .inv) (c .before .before .before .before .before .before .before .before .before .before .before .before .before .before .before .before .before .before .before .edges-test .taken) (c .before .before .before .before .before .before .before .before .before .before .before .before .before .before .before .before .before .edge-at .ensures .0) (c .before .before .before .before .before .before .before .before .before .before .before .before .before .before .before .before .before .edge-at .ensures .1) (sym (c .before .before .before .before .before .before .before .before .before .before .before .before .before .before .before .is-active .ensures) ∙ not-false _ (c .before .before .before .before .before .before .before .before .before .before .before .before .before .before .if1 .left)) (sym (c .before .before .before .before .before .before .before .before .before .before .before .before .is-active2 .ensures) ∙ not-false _ (c .before .before .before .before .before .before .before .before .before .before .before .if2 .left)))) _ _ (c .before .before .before .before .before .before .before .before .before .directions-test .taken) (subst (λ t. (m : Mesh) (s : State) → Reads m (c .before .before .before .before .before .before .before .before .before .before .before .before .before .before .before .before .before .before .before .before .before .before .before .before .before .args .x .vertices) (c .before .before .before .before .before .before .before .before .before .before .before .before .before .before .before .before .before .before .before .before .before .before .before .before .before .args .parameters .now) (c .before .before .before .before .before .before .before .before .before .before .before .before .before .before .before .before .before .before .before .before .before .before .before .before .before .args .points .now) (c .before .before .before .before .before .before .before .before .before .before .before .before .before .before .before .before .before .before .before .before .before .before .before .before .before .args .masks .now) → Stands (c .before .before .before .before .before .before .before .before .before .before .before .before .before .before .before .before .before .before .before .before .before .before .before .before .before .args .o) m (c .before .before .before .before .before .before .before .before .before .before .before .before .before .before .before .before .before .before .before .before .before .before .before .before .before .args .x) (c .before .before .before .before .before .before .before .before .before .before .before .before .before .before .before .before .before .before .before .before .before .before .before .before .before .args .n) (c .before .before .before .before .before .before .before .before .before .before .directions .work) s → MayPair (c .before .before .before .before .before .before .before .before .before .before .before .before .before .before .before .before .before .before .before .before .before .before .before .before .before .args .o) m (c .before .before .before .before .before .before .before .before .before .before .before .before .before .before .before .before .before .before .before .before .before .before .before .before .before .args .x) (c .before .before .before .before .before .before .before .before .before .before .before .before .before .before .before .before .before .before .before .before .before .before .before .before .before .args .n) s (t .a) (t .b) (c .before .before .before .before .before .before .before .before .before .before .directions .work) (c .before .before .before .before .before .before .may-pair .last .0) (c .before .before .before .before .before .before .may-pair .result)) (c .before .before .before .before .before .before .before .before .way .ensures) (c .before .before .before .before .before .before .may-pair .ensures)) (above-none _ (c .before .before .before .if3 .left)))) in ((pairs-room _ _ _ _ _ _ _ _ _ _ _ _ _ _ _ h, (let a = h .most in let b = c .before .loop-test .taken in omega arith), pair-below _ _ _ _ _ _ _ _ _ _ _ _ _ _ _ h (c .before .loop-test .taken) .0, pair-below _ _ _ _ _ _ _ _ _ _ _ _ _ _ _ h (c .before .loop-test .taken) .1), (c .before .before .before .before .before .before .before .before .before .before .before .before .before .before .before .before .before .before .before .before .before .before .before .before .before .args .o, pairs-ready _ _ _ _ _ _ _ _ _ _ _ _ _ _ _ h .0, pairs-ready _ _ _ _ _ _ _ _ _ _ _ _ _ _ _ h .1, pairs-ready _ _ _ _ _ _ _ _ _ _ _ _ _ _ _ h .3))
 
 directions-less-2 :
     tie.Need-directions-less-2 Inv-loop μ-loop Inv-directions μ-directions Inv-edges μ-edges
@@ -120,7 +119,7 @@ loop-again c = λ w h. pairs-next _ _ _ _ _ _ _ _ _ _ _ _ _ _ _ ((c .before .bef
 
 gains-requires :
     tie.Need-gains-requires Inv-loop μ-loop Inv-directions μ-directions Inv-edges μ-edges
-gains-requires c κs = let h = ((c .before .before .loop .inv) _ (pairs-start _ _ _ _ _ _ _ _ _ _ _ _ _ ((c .before .before .before .before .before .before .before .before .before .before .directions .inv) _ (ways-start _ _ _ _ _ _ _ _ _ _ _ _ (c .before .before .before .before .before .before .before .before .before .before .before .before .before .before .before .before .before .before .before .before .edges .inv) (c .before .before .before .before .before .before .before .before .before .before .before .before .before .before .before .before .before .before .before .edges-test .taken) (c .before .before .before .before .before .before .before .before .before .before .before .before .before .before .before .before .before .edge-at .ensures .0) (c .before .before .before .before .before .before .before .before .before .before .before .before .before .before .before .before .before .edge-at .ensures .1) (sym (c .before .before .before .before .before .before .before .before .before .before .before .before .before .before .before .is-replaced .ensures) ∙ c .before .before .before .before .before .before .before .before .before .before .before .before .before .before .if1 .left) (sym (c .before .before .before .before .before .before .before .before .before .before .before .before .is-replaced2 .ensures) ∙ c .before .before .before .before .before .before .before .before .before .before .before .if2 .left))) _ _ (c .before .before .before .before .before .before .before .before .before .directions-test .taken) (subst (λ t. (m : Mesh) (s : State) → Reads m (c .before .before .before .before .before .before .before .before .before .before .before .before .before .before .before .before .before .before .before .before .before .before .before .before .before .args .x .vertices) (c .before .before .before .before .before .before .before .before .before .before .before .before .before .before .before .before .before .before .before .before .before .before .before .before .before .args .parameters .now) (c .before .before .before .before .before .before .before .before .before .before .before .before .before .before .before .before .before .before .before .before .before .before .before .before .before .args .points .now) (c .before .before .before .before .before .before .before .before .before .before .before .before .before .before .before .before .before .before .before .before .before .before .before .before .before .args .masks .now) → Stands (c .before .before .before .before .before .before .before .before .before .before .before .before .before .before .before .before .before .before .before .before .before .before .before .before .before .args .o) m (c .before .before .before .before .before .before .before .before .before .before .before .before .before .before .before .before .before .before .before .before .before .before .before .before .before .args .x) (c .before .before .before .before .before .before .before .before .before .before .before .before .before .before .before .before .before .before .before .before .before .before .before .before .before .args .n) (c .before .before .before .before .before .before .before .before .before .before .directions .work) s → MayPair (c .before .before .before .before .before .before .before .before .before .before .before .before .before .before .before .before .before .before .before .before .before .before .before .before .before .args .o) m (c .before .before .before .before .before .before .before .before .before .before .before .before .before .before .before .before .before .before .before .before .before .before .before .before .before .args .x) (c .before .before .before .before .before .before .before .before .before .before .before .before .before .before .before .before .before .before .before .before .before .before .before .before .before .args .n) s (t .a) (t .b) (c .before .before .before .before .before .before .before .before .before .before .directions .work) (c .before .before .before .before .before .before .may-pair .last .0) (c .before .before .before .before .before .before .may-pair .result)) (c .before .before .before .before .before .before .before .before .way .ensures) (c .before .before .before .before .before .before .may-pair .ensures)) (above-none _ (c .before .before .before .if3 .left)))) in (pairs-room _ _ _ _ _ _ _ _ _ _ _ _ _ _ _ h, pairs-proper _ _ _ _ _ _ _ _ _ _ _ _ _ _ _ h, (c .before .before .before .before .before .before .before .before .before .before .before .before .before .before .before .before .before .before .before .before .before .before .before .before .before .args .o, pairs-ready _ _ _ _ _ _ _ _ _ _ _ _ _ _ _ h .0, pairs-ready _ _ _ _ _ _ _ _ _ _ _ _ _ _ _ h .1, pairs-ready _ _ _ _ _ _ _ _ _ _ _ _ _ _ _ h .3))
+gains-requires c κs = let h = ((c .before .before .loop .inv) _ (pairs-start _ _ _ _ _ _ _ _ _ _ _ _ _ ((c .before .before .before .before .before .before .before .before .before .before .directions .inv) _ (ways-start _ _ _ _ _ _ _ _ _ _ _ _ (c .before .before .before .before .before .before .before .before .before .before .before .before .before .before .before .before .before .before .before .before .edges .inv) (c .before .before .before .before .before .before .before .before .before .before .before .before .before .before .before .before .before .before .before .edges-test .taken) (c .before .before .before .before .before .before .before .before .before .before .before .before .before .before .before .before .before .edge-at .ensures .0) (c .before .before .before .before .before .before .before .before .before .before .before .before .before .before .before .before .before .edge-at .ensures .1) (sym (c .before .before .before .before .before .before .before .before .before .before .before .before .before .before .before .is-active .ensures) ∙ not-false _ (c .before .before .before .before .before .before .before .before .before .before .before .before .before .before .if1 .left)) (sym (c .before .before .before .before .before .before .before .before .before .before .before .before .is-active2 .ensures) ∙ not-false _ (c .before .before .before .before .before .before .before .before .before .before .before .if2 .left)))) _ _ (c .before .before .before .before .before .before .before .before .before .directions-test .taken) (subst (λ t. (m : Mesh) (s : State) → Reads m (c .before .before .before .before .before .before .before .before .before .before .before .before .before .before .before .before .before .before .before .before .before .before .before .before .before .args .x .vertices) (c .before .before .before .before .before .before .before .before .before .before .before .before .before .before .before .before .before .before .before .before .before .before .before .before .before .args .parameters .now) (c .before .before .before .before .before .before .before .before .before .before .before .before .before .before .before .before .before .before .before .before .before .before .before .before .before .args .points .now) (c .before .before .before .before .before .before .before .before .before .before .before .before .before .before .before .before .before .before .before .before .before .before .before .before .before .args .masks .now) → Stands (c .before .before .before .before .before .before .before .before .before .before .before .before .before .before .before .before .before .before .before .before .before .before .before .before .before .args .o) m (c .before .before .before .before .before .before .before .before .before .before .before .before .before .before .before .before .before .before .before .before .before .before .before .before .before .args .x) (c .before .before .before .before .before .before .before .before .before .before .before .before .before .before .before .before .before .before .before .before .before .before .before .before .before .args .n) (c .before .before .before .before .before .before .before .before .before .before .directions .work) s → MayPair (c .before .before .before .before .before .before .before .before .before .before .before .before .before .before .before .before .before .before .before .before .before .before .before .before .before .args .o) m (c .before .before .before .before .before .before .before .before .before .before .before .before .before .before .before .before .before .before .before .before .before .before .before .before .before .args .x) (c .before .before .before .before .before .before .before .before .before .before .before .before .before .before .before .before .before .before .before .before .before .before .before .before .before .args .n) s (t .a) (t .b) (c .before .before .before .before .before .before .before .before .before .before .directions .work) (c .before .before .before .before .before .before .may-pair .last .0) (c .before .before .before .before .before .before .may-pair .result)) (c .before .before .before .before .before .before .before .before .way .ensures) (c .before .before .before .before .before .before .may-pair .ensures)) (above-none _ (c .before .before .before .if3 .left)))) in (pairs-room _ _ _ _ _ _ _ _ _ _ _ _ _ _ _ h, pairs-proper _ _ _ _ _ _ _ _ _ _ _ _ _ _ _ h, (c .before .before .before .before .before .before .before .before .before .before .before .before .before .before .before .before .before .before .before .before .before .before .before .before .before .args .o, pairs-ready _ _ _ _ _ _ _ _ _ _ _ _ _ _ _ h .0, pairs-ready _ _ _ _ _ _ _ _ _ _ _ _ _ _ _ h .1, pairs-ready _ _ _ _ _ _ _ _ _ _ _ _ _ _ _ h .3))
 
 directions-less-3 :
     tie.Need-directions-less-3 Inv-loop μ-loop Inv-directions μ-directions Inv-edges μ-edges
@@ -132,17 +131,17 @@ directions-again-3 c = λ w h. gain-fails _ _ _ _ _ _ _ _ _ _ _ _ _ _ _ ((c .bef
 
 replace-all-requires :
     tie.Need-replace-all-requires Inv-loop μ-loop Inv-directions μ-directions Inv-edges μ-edges
-replace-all-requires c κs = let h = ((c .before .before .before .before .before .before .before .loop .inv) _ (pairs-start _ _ _ _ _ _ _ _ _ _ _ _ _ ((c .before .before .before .before .before .before .before .before .before .before .before .before .before .before .before .directions .inv) _ (ways-start _ _ _ _ _ _ _ _ _ _ _ _ (c .before .before .before .before .before .before .before .before .before .before .before .before .before .before .before .before .before .before .before .before .before .before .before .before .before .edges .inv) (c .before .before .before .before .before .before .before .before .before .before .before .before .before .before .before .before .before .before .before .before .before .before .before .before .edges-test .taken) (c .before .before .before .before .before .before .before .before .before .before .before .before .before .before .before .before .before .before .before .before .before .before .edge-at .ensures .0) (c .before .before .before .before .before .before .before .before .before .before .before .before .before .before .before .before .before .before .before .before .before .before .edge-at .ensures .1) (sym (c .before .before .before .before .before .before .before .before .before .before .before .before .before .before .before .before .before .before .before .before .is-replaced .ensures) ∙ c .before .before .before .before .before .before .before .before .before .before .before .before .before .before .before .before .before .before .before .if1 .left) (sym (c .before .before .before .before .before .before .before .before .before .before .before .before .before .before .before .before .before .is-replaced2 .ensures) ∙ c .before .before .before .before .before .before .before .before .before .before .before .before .before .before .before .before .if2 .left))) _ _ (c .before .before .before .before .before .before .before .before .before .before .before .before .before .before .directions-test .taken) (subst (λ t. (m : Mesh) (s : State) → Reads m (c .before .before .before .before .before .before .before .before .before .before .before .before .before .before .before .before .before .before .before .before .before .before .before .before .before .before .before .before .before .before .args .x .vertices) (c .before .before .before .before .before .before .before .before .before .before .before .before .before .before .before .before .before .before .before .before .before .before .before .before .before .before .before .before .before .before .args .parameters .now) (c .before .before .before .before .before .before .before .before .before .before .before .before .before .before .before .before .before .before .before .before .before .before .before .before .before .before .before .before .before .before .args .points .now) (c .before .before .before .before .before .before .before .before .before .before .before .before .before .before .before .before .before .before .before .before .before .before .before .before .before .before .before .before .before .before .args .masks .now) → Stands (c .before .before .before .before .before .before .before .before .before .before .before .before .before .before .before .before .before .before .before .before .before .before .before .before .before .before .before .before .before .before .args .o) m (c .before .before .before .before .before .before .before .before .before .before .before .before .before .before .before .before .before .before .before .before .before .before .before .before .before .before .before .before .before .before .args .x) (c .before .before .before .before .before .before .before .before .before .before .before .before .before .before .before .before .before .before .before .before .before .before .before .before .before .before .before .before .before .before .args .n) (c .before .before .before .before .before .before .before .before .before .before .before .before .before .before .before .directions .work) s → MayPair (c .before .before .before .before .before .before .before .before .before .before .before .before .before .before .before .before .before .before .before .before .before .before .before .before .before .before .before .before .before .before .args .o) m (c .before .before .before .before .before .before .before .before .before .before .before .before .before .before .before .before .before .before .before .before .before .before .before .before .before .before .before .before .before .before .args .x) (c .before .before .before .before .before .before .before .before .before .before .before .before .before .before .before .before .before .before .before .before .before .before .before .before .before .before .before .before .before .before .args .n) s (t .a) (t .b) (c .before .before .before .before .before .before .before .before .before .before .before .before .before .before .before .directions .work) (c .before .before .before .before .before .before .before .before .before .before .before .may-pair .last .0) (c .before .before .before .before .before .before .before .before .before .before .before .may-pair .result)) (c .before .before .before .before .before .before .before .before .before .before .before .before .before .way .ensures) (c .before .before .before .before .before .before .before .before .before .before .before .may-pair .ensures)) (above-none _ (c .before .before .before .before .before .before .before .before .if3 .left)))) in (subst (Room (c .before .before .before .before .before .before .before .before .before .before .before .before .before .before .before .before .before .before .before .before .before .before .before .before .before .before .before .before .before .before .args .x) (c .before .before .before .before .before .before .before .before .before .before .before .before .before .before .before .before .before .before .before .before .before .before .before .before .before .before .before .before .before .before .args .n)) (sym ((c .before .before .before .before .gains .ensures .1) .long)) (pairs-room _ _ _ _ _ _ _ _ _ _ _ _ _ _ _ h), h .most)
+replace-all-requires c κs = let h = ((c .before .before .before .before .before .before .before .loop .inv) _ (pairs-start _ _ _ _ _ _ _ _ _ _ _ _ _ ((c .before .before .before .before .before .before .before .before .before .before .before .before .before .before .before .directions .inv) _ (ways-start _ _ _ _ _ _ _ _ _ _ _ _ (c .before .before .before .before .before .before .before .before .before .before .before .before .before .before .before .before .before .before .before .before .before .before .before .before .before .edges .inv) (c .before .before .before .before .before .before .before .before .before .before .before .before .before .before .before .before .before .before .before .before .before .before .before .before .edges-test .taken) (c .before .before .before .before .before .before .before .before .before .before .before .before .before .before .before .before .before .before .before .before .before .before .edge-at .ensures .0) (c .before .before .before .before .before .before .before .before .before .before .before .before .before .before .before .before .before .before .before .before .before .before .edge-at .ensures .1) (sym (c .before .before .before .before .before .before .before .before .before .before .before .before .before .before .before .before .before .before .before .before .is-active .ensures) ∙ not-false _ (c .before .before .before .before .before .before .before .before .before .before .before .before .before .before .before .before .before .before .before .if1 .left)) (sym (c .before .before .before .before .before .before .before .before .before .before .before .before .before .before .before .before .before .is-active2 .ensures) ∙ not-false _ (c .before .before .before .before .before .before .before .before .before .before .before .before .before .before .before .before .if2 .left)))) _ _ (c .before .before .before .before .before .before .before .before .before .before .before .before .before .before .directions-test .taken) (subst (λ t. (m : Mesh) (s : State) → Reads m (c .before .before .before .before .before .before .before .before .before .before .before .before .before .before .before .before .before .before .before .before .before .before .before .before .before .before .before .before .before .before .args .x .vertices) (c .before .before .before .before .before .before .before .before .before .before .before .before .before .before .before .before .before .before .before .before .before .before .before .before .before .before .before .before .before .before .args .parameters .now) (c .before .before .before .before .before .before .before .before .before .before .before .before .before .before .before .before .before .before .before .before .before .before .before .before .before .before .before .before .before .before .args .points .now) (c .before .before .before .before .before .before .before .before .before .before .before .before .before .before .before .before .before .before .before .before .before .before .before .before .before .before .before .before .before .before .args .masks .now) → Stands (c .before .before .before .before .before .before .before .before .before .before .before .before .before .before .before .before .before .before .before .before .before .before .before .before .before .before .before .before .before .before .args .o) m (c .before .before .before .before .before .before .before .before .before .before .before .before .before .before .before .before .before .before .before .before .before .before .before .before .before .before .before .before .before .before .args .x) (c .before .before .before .before .before .before .before .before .before .before .before .before .before .before .before .before .before .before .before .before .before .before .before .before .before .before .before .before .before .before .args .n) (c .before .before .before .before .before .before .before .before .before .before .before .before .before .before .before .directions .work) s → MayPair (c .before .before .before .before .before .before .before .before .before .before .before .before .before .before .before .before .before .before .before .before .before .before .before .before .before .before .before .before .before .before .args .o) m (c .before .before .before .before .before .before .before .before .before .before .before .before .before .before .before .before .before .before .before .before .before .before .before .before .before .before .before .before .before .before .args .x) (c .before .before .before .before .before .before .before .before .before .before .before .before .before .before .before .before .before .before .before .before .before .before .before .before .before .before .before .before .before .before .args .n) s (t .a) (t .b) (c .before .before .before .before .before .before .before .before .before .before .before .before .before .before .before .directions .work) (c .before .before .before .before .before .before .before .before .before .before .before .may-pair .last .0) (c .before .before .before .before .before .before .before .before .before .before .before .may-pair .result)) (c .before .before .before .before .before .before .before .before .before .before .before .before .before .way .ensures) (c .before .before .before .before .before .before .before .before .before .before .before .may-pair .ensures)) (above-none _ (c .before .before .before .before .before .before .before .before .if3 .left)))) in (subst (Room (c .before .before .before .before .before .before .before .before .before .before .before .before .before .before .before .before .before .before .before .before .before .before .before .before .before .before .before .before .before .before .args .x) (c .before .before .before .before .before .before .before .before .before .before .before .before .before .before .before .before .before .before .before .before .before .before .before .before .before .before .before .before .before .before .args .n)) (sym ((c .before .before .before .before .gains .ensures .1) .long)) (pairs-room _ _ _ _ _ _ _ _ _ _ _ _ _ _ _ h), h .most)
 
 add-replaced : tie.Need-add-replaced Inv-loop μ-loop Inv-directions μ-directions Inv-edges μ-edges
-add-replaced c = let h = ((c .before .before .before .before .before .before .before .before .before .before .loop .inv) _ (pairs-start _ _ _ _ _ _ _ _ _ _ _ _ _ ((c .before .before .before .before .before .before .before .before .before .before .before .before .before .before .before .before .before .before .directions .inv) _ (ways-start _ _ _ _ _ _ _ _ _ _ _ _ (c .before .before .before .before .before .before .before .before .before .before .before .before .before .before .before .before .before .before .before .before .before .before .before .before .before .before .before .before .edges .inv) (c .before .before .before .before .before .before .before .before .before .before .before .before .before .before .before .before .before .before .before .before .before .before .before .before .before .before .before .edges-test .taken) (c .before .before .before .before .before .before .before .before .before .before .before .before .before .before .before .before .before .before .before .before .before .before .before .before .before .edge-at .ensures .0) (c .before .before .before .before .before .before .before .before .before .before .before .before .before .before .before .before .before .before .before .before .before .before .before .before .before .edge-at .ensures .1) (sym (c .before .before .before .before .before .before .before .before .before .before .before .before .before .before .before .before .before .before .before .before .before .before .before .is-replaced .ensures) ∙ c .before .before .before .before .before .before .before .before .before .before .before .before .before .before .before .before .before .before .before .before .before .before .if1 .left) (sym (c .before .before .before .before .before .before .before .before .before .before .before .before .before .before .before .before .before .before .before .before .is-replaced2 .ensures) ∙ c .before .before .before .before .before .before .before .before .before .before .before .before .before .before .before .before .before .before .before .if2 .left))) _ _ (c .before .before .before .before .before .before .before .before .before .before .before .before .before .before .before .before .before .directions-test .taken) (subst (λ t. (m : Mesh) (s : State) → Reads m (c .before .before .before .before .before .before .before .before .before .before .before .before .before .before .before .before .before .before .before .before .before .before .before .before .before .before .before .before .before .before .before .before .before .args .x .vertices) (c .before .before .before .before .before .before .before .before .before .before .before .before .before .before .before .before .before .before .before .before .before .before .before .before .before .before .before .before .before .before .before .before .before .args .parameters .now) (c .before .before .before .before .before .before .before .before .before .before .before .before .before .before .before .before .before .before .before .before .before .before .before .before .before .before .before .before .before .before .before .before .before .args .points .now) (c .before .before .before .before .before .before .before .before .before .before .before .before .before .before .before .before .before .before .before .before .before .before .before .before .before .before .before .before .before .before .before .before .before .args .masks .now) → Stands (c .before .before .before .before .before .before .before .before .before .before .before .before .before .before .before .before .before .before .before .before .before .before .before .before .before .before .before .before .before .before .before .before .before .args .o) m (c .before .before .before .before .before .before .before .before .before .before .before .before .before .before .before .before .before .before .before .before .before .before .before .before .before .before .before .before .before .before .before .before .before .args .x) (c .before .before .before .before .before .before .before .before .before .before .before .before .before .before .before .before .before .before .before .before .before .before .before .before .before .before .before .before .before .before .before .before .before .args .n) (c .before .before .before .before .before .before .before .before .before .before .before .before .before .before .before .before .before .before .directions .work) s → MayPair (c .before .before .before .before .before .before .before .before .before .before .before .before .before .before .before .before .before .before .before .before .before .before .before .before .before .before .before .before .before .before .before .before .before .args .o) m (c .before .before .before .before .before .before .before .before .before .before .before .before .before .before .before .before .before .before .before .before .before .before .before .before .before .before .before .before .before .before .before .before .before .args .x) (c .before .before .before .before .before .before .before .before .before .before .before .before .before .before .before .before .before .before .before .before .before .before .before .before .before .before .before .before .before .before .before .before .before .args .n) s (t .a) (t .b) (c .before .before .before .before .before .before .before .before .before .before .before .before .before .before .before .before .before .before .directions .work) (c .before .before .before .before .before .before .before .before .before .before .before .before .before .before .may-pair .last .0) (c .before .before .before .before .before .before .before .before .before .before .before .before .before .before .may-pair .result)) (c .before .before .before .before .before .before .before .before .before .before .before .before .before .before .before .before .way .ensures) (c .before .before .before .before .before .before .before .before .before .before .before .before .before .before .may-pair .ensures)) (above-none _ (c .before .before .before .before .before .before .before .before .before .before .before .if3 .left)))) in let a = h .few in let b = h .most in let r = pairs-room _ _ _ _ _ _ _ _ _ _ _ _ _ _ _ h .few in let d = h .done in let f = h .given .few in let g = pairs-room _ _ _ _ _ _ _ _ _ _ _ _ _ _ _ h .elements in omega arith
+add-replaced c = let h = ((c .before .before .before .before .before .before .before .before .before .before .loop .inv) _ (pairs-start _ _ _ _ _ _ _ _ _ _ _ _ _ ((c .before .before .before .before .before .before .before .before .before .before .before .before .before .before .before .before .before .before .directions .inv) _ (ways-start _ _ _ _ _ _ _ _ _ _ _ _ (c .before .before .before .before .before .before .before .before .before .before .before .before .before .before .before .before .before .before .before .before .before .before .before .before .before .before .before .before .edges .inv) (c .before .before .before .before .before .before .before .before .before .before .before .before .before .before .before .before .before .before .before .before .before .before .before .before .before .before .before .edges-test .taken) (c .before .before .before .before .before .before .before .before .before .before .before .before .before .before .before .before .before .before .before .before .before .before .before .before .before .edge-at .ensures .0) (c .before .before .before .before .before .before .before .before .before .before .before .before .before .before .before .before .before .before .before .before .before .before .before .before .before .edge-at .ensures .1) (sym (c .before .before .before .before .before .before .before .before .before .before .before .before .before .before .before .before .before .before .before .before .before .before .before .is-active .ensures) ∙ not-false _ (c .before .before .before .before .before .before .before .before .before .before .before .before .before .before .before .before .before .before .before .before .before .before .if1 .left)) (sym (c .before .before .before .before .before .before .before .before .before .before .before .before .before .before .before .before .before .before .before .before .is-active2 .ensures) ∙ not-false _ (c .before .before .before .before .before .before .before .before .before .before .before .before .before .before .before .before .before .before .before .if2 .left)))) _ _ (c .before .before .before .before .before .before .before .before .before .before .before .before .before .before .before .before .before .directions-test .taken) (subst (λ t. (m : Mesh) (s : State) → Reads m (c .before .before .before .before .before .before .before .before .before .before .before .before .before .before .before .before .before .before .before .before .before .before .before .before .before .before .before .before .before .before .before .before .before .args .x .vertices) (c .before .before .before .before .before .before .before .before .before .before .before .before .before .before .before .before .before .before .before .before .before .before .before .before .before .before .before .before .before .before .before .before .before .args .parameters .now) (c .before .before .before .before .before .before .before .before .before .before .before .before .before .before .before .before .before .before .before .before .before .before .before .before .before .before .before .before .before .before .before .before .before .args .points .now) (c .before .before .before .before .before .before .before .before .before .before .before .before .before .before .before .before .before .before .before .before .before .before .before .before .before .before .before .before .before .before .before .before .before .args .masks .now) → Stands (c .before .before .before .before .before .before .before .before .before .before .before .before .before .before .before .before .before .before .before .before .before .before .before .before .before .before .before .before .before .before .before .before .before .args .o) m (c .before .before .before .before .before .before .before .before .before .before .before .before .before .before .before .before .before .before .before .before .before .before .before .before .before .before .before .before .before .before .before .before .before .args .x) (c .before .before .before .before .before .before .before .before .before .before .before .before .before .before .before .before .before .before .before .before .before .before .before .before .before .before .before .before .before .before .before .before .before .args .n) (c .before .before .before .before .before .before .before .before .before .before .before .before .before .before .before .before .before .before .directions .work) s → MayPair (c .before .before .before .before .before .before .before .before .before .before .before .before .before .before .before .before .before .before .before .before .before .before .before .before .before .before .before .before .before .before .before .before .before .args .o) m (c .before .before .before .before .before .before .before .before .before .before .before .before .before .before .before .before .before .before .before .before .before .before .before .before .before .before .before .before .before .before .before .before .before .args .x) (c .before .before .before .before .before .before .before .before .before .before .before .before .before .before .before .before .before .before .before .before .before .before .before .before .before .before .before .before .before .before .before .before .before .args .n) s (t .a) (t .b) (c .before .before .before .before .before .before .before .before .before .before .before .before .before .before .before .before .before .before .directions .work) (c .before .before .before .before .before .before .before .before .before .before .before .before .before .before .may-pair .last .0) (c .before .before .before .before .before .before .before .before .before .before .before .before .before .before .may-pair .result)) (c .before .before .before .before .before .before .before .before .before .before .before .before .before .before .before .before .way .ensures) (c .before .before .before .before .before .before .before .before .before .before .before .before .before .before .may-pair .ensures)) (above-none _ (c .before .before .before .before .before .before .before .before .before .before .before .if3 .left)))) in let a = h .few in let b = h .most in let r = pairs-room _ _ _ _ _ _ _ _ _ _ _ _ _ _ _ h .few in let d = h .done in let f = h .given .few in let g = pairs-room _ _ _ _ _ _ _ _ _ _ _ _ _ _ _ h .elements in omega arith
 
 edges-less-4 : tie.Need-edges-less-4 Inv-loop μ-loop Inv-directions μ-directions Inv-edges μ-edges
 edges-less-4 c = let a = c .before .before .before .before .before .before .before .before .before .before .before .before .before .before .before .before .before .before .before .before .before .before .before .before .before .before .before .edges-test .taken in omega arith
 
 edges-again-4 :
     tie.Need-edges-again-4 Inv-loop μ-loop Inv-directions μ-directions Inv-edges μ-edges
-edges-again-4 c = let h = ((c .before .before .before .before .before .before .before .before .before .before .loop .inv) _ (pairs-start _ _ _ _ _ _ _ _ _ _ _ _ _ ((c .before .before .before .before .before .before .before .before .before .before .before .before .before .before .before .before .before .before .directions .inv) _ (ways-start _ _ _ _ _ _ _ _ _ _ _ _ (c .before .before .before .before .before .before .before .before .before .before .before .before .before .before .before .before .before .before .before .before .before .before .before .before .before .before .before .before .edges .inv) (c .before .before .before .before .before .before .before .before .before .before .before .before .before .before .before .before .before .before .before .before .before .before .before .before .before .before .before .edges-test .taken) (c .before .before .before .before .before .before .before .before .before .before .before .before .before .before .before .before .before .before .before .before .before .before .before .before .before .edge-at .ensures .0) (c .before .before .before .before .before .before .before .before .before .before .before .before .before .before .before .before .before .before .before .before .before .before .before .before .before .edge-at .ensures .1) (sym (c .before .before .before .before .before .before .before .before .before .before .before .before .before .before .before .before .before .before .before .before .before .before .before .is-replaced .ensures) ∙ c .before .before .before .before .before .before .before .before .before .before .before .before .before .before .before .before .before .before .before .before .before .before .if1 .left) (sym (c .before .before .before .before .before .before .before .before .before .before .before .before .before .before .before .before .before .before .before .before .is-replaced2 .ensures) ∙ c .before .before .before .before .before .before .before .before .before .before .before .before .before .before .before .before .before .before .before .if2 .left))) _ _ (c .before .before .before .before .before .before .before .before .before .before .before .before .before .before .before .before .before .directions-test .taken) (subst (λ t. (m : Mesh) (s : State) → Reads m (c .before .before .before .before .before .before .before .before .before .before .before .before .before .before .before .before .before .before .before .before .before .before .before .before .before .before .before .before .before .before .before .before .before .args .x .vertices) (c .before .before .before .before .before .before .before .before .before .before .before .before .before .before .before .before .before .before .before .before .before .before .before .before .before .before .before .before .before .before .before .before .before .args .parameters .now) (c .before .before .before .before .before .before .before .before .before .before .before .before .before .before .before .before .before .before .before .before .before .before .before .before .before .before .before .before .before .before .before .before .before .args .points .now) (c .before .before .before .before .before .before .before .before .before .before .before .before .before .before .before .before .before .before .before .before .before .before .before .before .before .before .before .before .before .before .before .before .before .args .masks .now) → Stands (c .before .before .before .before .before .before .before .before .before .before .before .before .before .before .before .before .before .before .before .before .before .before .before .before .before .before .before .before .before .before .before .before .before .args .o) m (c .before .before .before .before .before .before .before .before .before .before .before .before .before .before .before .before .before .before .before .before .before .before .before .before .before .before .before .before .before .before .before .before .before .args .x) (c .before .before .before .before .before .before .before .before .before .before .before .before .before .before .before .before .before .before .before .before .before .before .before .before .before .before .before .before .before .before .before .before .before .args .n) (c .before .before .before .before .before .before .before .before .before .before .before .before .before .before .before .before .before .before .directions .work) s → MayPair (c .before .before .before .before .before .before .before .before .before .before .before .before .before .before .before .before .before .before .before .before .before .before .before .before .before .before .before .before .before .before .before .before .before .args .o) m (c .before .before .before .before .before .before .before .before .before .before .before .before .before .before .before .before .before .before .before .before .before .before .before .before .before .before .before .before .before .before .before .before .before .args .x) (c .before .before .before .before .before .before .before .before .before .before .before .before .before .before .before .before .before .before .before .before .before .before .before .before .before .before .before .before .before .before .before .before .before .args .n) s (t .a) (t .b) (c .before .before .before .before .before .before .before .before .before .before .before .before .before .before .before .before .before .before .directions .work) (c .before .before .before .before .before .before .before .before .before .before .before .before .before .before .may-pair .last .0) (c .before .before .before .before .before .before .before .before .before .before .before .before .before .before .may-pair .result)) (c .before .before .before .before .before .before .before .before .before .before .before .before .before .before .before .before .way .ensures) (c .before .before .before .before .before .before .before .before .before .before .before .before .before .before .may-pair .ensures)) (above-none _ (c .before .before .before .before .before .before .before .before .before .before .before .if3 .left)))) in gain-made _ _ _ _ _ _ _ _ _ _ _ _ _ _ _ h _ _ (c .before .before .before .before .before .before .before .before .before .loop-test .left) (c .before .before .before .before .before .before .before .gains .ensures .1) (λ m s e z. (c .before .before .before .before .before .before .before .gains .ensures .0) (c .before .before .before .before .before .before .before .before .before .before .before .before .before .before .before .before .before .before .before .before .before .before .before .before .before .before .before .before .before .before .before .before .before .args .o) m s e z) (not-false _ (c .before .before .before .before .if5 .left)) _ ((c .before .before .replace-all .ensures) (gain-proper _ _ _ _ _ _ _ _ _ _ _ _ _ _ _ h _ _ (c .before .before .before .before .before .before .before .before .before .loop-test .left) (c .before .before .before .before .before .before .before .gains .ensures .1) (λ m s e z. (c .before .before .before .before .before .before .before .gains .ensures .0) (c .before .before .before .before .before .before .before .before .before .before .before .before .before .before .before .before .before .before .before .before .before .before .before .before .before .before .before .before .before .before .before .before .before .args .o) m s e z)))
+edges-again-4 c = let h = ((c .before .before .before .before .before .before .before .before .before .before .loop .inv) _ (pairs-start _ _ _ _ _ _ _ _ _ _ _ _ _ ((c .before .before .before .before .before .before .before .before .before .before .before .before .before .before .before .before .before .before .directions .inv) _ (ways-start _ _ _ _ _ _ _ _ _ _ _ _ (c .before .before .before .before .before .before .before .before .before .before .before .before .before .before .before .before .before .before .before .before .before .before .before .before .before .before .before .before .edges .inv) (c .before .before .before .before .before .before .before .before .before .before .before .before .before .before .before .before .before .before .before .before .before .before .before .before .before .before .before .edges-test .taken) (c .before .before .before .before .before .before .before .before .before .before .before .before .before .before .before .before .before .before .before .before .before .before .before .before .before .edge-at .ensures .0) (c .before .before .before .before .before .before .before .before .before .before .before .before .before .before .before .before .before .before .before .before .before .before .before .before .before .edge-at .ensures .1) (sym (c .before .before .before .before .before .before .before .before .before .before .before .before .before .before .before .before .before .before .before .before .before .before .before .is-active .ensures) ∙ not-false _ (c .before .before .before .before .before .before .before .before .before .before .before .before .before .before .before .before .before .before .before .before .before .before .if1 .left)) (sym (c .before .before .before .before .before .before .before .before .before .before .before .before .before .before .before .before .before .before .before .before .is-active2 .ensures) ∙ not-false _ (c .before .before .before .before .before .before .before .before .before .before .before .before .before .before .before .before .before .before .before .if2 .left)))) _ _ (c .before .before .before .before .before .before .before .before .before .before .before .before .before .before .before .before .before .directions-test .taken) (subst (λ t. (m : Mesh) (s : State) → Reads m (c .before .before .before .before .before .before .before .before .before .before .before .before .before .before .before .before .before .before .before .before .before .before .before .before .before .before .before .before .before .before .before .before .before .args .x .vertices) (c .before .before .before .before .before .before .before .before .before .before .before .before .before .before .before .before .before .before .before .before .before .before .before .before .before .before .before .before .before .before .before .before .before .args .parameters .now) (c .before .before .before .before .before .before .before .before .before .before .before .before .before .before .before .before .before .before .before .before .before .before .before .before .before .before .before .before .before .before .before .before .before .args .points .now) (c .before .before .before .before .before .before .before .before .before .before .before .before .before .before .before .before .before .before .before .before .before .before .before .before .before .before .before .before .before .before .before .before .before .args .masks .now) → Stands (c .before .before .before .before .before .before .before .before .before .before .before .before .before .before .before .before .before .before .before .before .before .before .before .before .before .before .before .before .before .before .before .before .before .args .o) m (c .before .before .before .before .before .before .before .before .before .before .before .before .before .before .before .before .before .before .before .before .before .before .before .before .before .before .before .before .before .before .before .before .before .args .x) (c .before .before .before .before .before .before .before .before .before .before .before .before .before .before .before .before .before .before .before .before .before .before .before .before .before .before .before .before .before .before .before .before .before .args .n) (c .before .before .before .before .before .before .before .before .before .before .before .before .before .before .before .before .before .before .directions .work) s → MayPair (c .before .before .before .before .before .before .before .before .before .before .before .before .before .before .before .before .before .before .before .before .before .before .before .before .before .before .before .before .before .before .before .before .before .args .o) m (c .before .before .before .before .before .before .before .before .before .before .before .before .before .before .before .before .before .before .before .before .before .before .before .before .before .before .before .before .before .before .before .before .before .args .x) (c .before .before .before .before .before .before .before .before .before .before .before .before .before .before .before .before .before .before .before .before .before .before .before .before .before .before .before .before .before .before .before .before .before .args .n) s (t .a) (t .b) (c .before .before .before .before .before .before .before .before .before .before .before .before .before .before .before .before .before .before .directions .work) (c .before .before .before .before .before .before .before .before .before .before .before .before .before .before .may-pair .last .0) (c .before .before .before .before .before .before .before .before .before .before .before .before .before .before .may-pair .result)) (c .before .before .before .before .before .before .before .before .before .before .before .before .before .before .before .before .way .ensures) (c .before .before .before .before .before .before .before .before .before .before .before .before .before .before .may-pair .ensures)) (above-none _ (c .before .before .before .before .before .before .before .before .before .before .before .if3 .left)))) in gain-made _ _ _ _ _ _ _ _ _ _ _ _ _ _ _ h _ _ (c .before .before .before .before .before .before .before .before .before .loop-test .left) (c .before .before .before .before .before .before .before .gains .ensures .1) (λ m s e z. (c .before .before .before .before .before .before .before .gains .ensures .0) (c .before .before .before .before .before .before .before .before .before .before .before .before .before .before .before .before .before .before .before .before .before .before .before .before .before .before .before .before .before .before .before .before .before .args .o) m s e z) (not-false _ (c .before .before .before .before .if5 .left)) _ ((c .before .before .replace-all .ensures) (gain-proper _ _ _ _ _ _ _ _ _ _ _ _ _ _ _ h _ _ (c .before .before .before .before .before .before .before .before .before .loop-test .left) (c .before .before .before .before .before .before .before .gains .ensures .1) (λ m s e z. (c .before .before .before .before .before .before .before .gains .ensures .0) (c .before .before .before .before .before .before .before .before .before .before .before .before .before .before .before .before .before .before .before .before .before .before .before .before .before .before .before .before .before .before .before .before .before .args .o) m s e z)))
 
 same-length : tie.Need-same-length Inv-loop μ-loop Inv-directions μ-directions Inv-edges μ-edges
 same-length c = search needs
@@ -163,10 +162,10 @@ round-spec =
     edges-holds
     edge-at-requires
     add-i
-    is-replaced-requires
+    is-active-requires
     edges-less
     edges-again
-    is-replaced-requires-2
+    is-active-requires-2
     edges-less-2
     edges-again-2
     directions-holds
