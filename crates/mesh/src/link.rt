@@ -1,10 +1,10 @@
 // Whether an edge a b may be collapsed as far as links and features go: the three tests of `link_ok`.
 //
-// An area for n elements has 88 n words. First the interior: the elements, 4 n words; seven rows of 4 words an element; as many words of
-// scratch; where the elements are many, a table of the marks at vertices, by which rows are left out (specs/inside/LinkTable.antt). Then
-// the boundary: the elements; the keys of the faces, 4 n rows of 3 words, sorted with the words behind them as scratch; where the elements
-// are many they are first face rows of 4 words, ordered by counting (src/faces.rt). Behind the keys three rows of 3 words for each boundary
-// face about the edge, at most 36 n words; as many words of scratch. A row is a simplex in rising order, its last vertex repeated up to the
+// An area for n elements has 88 n words. First the boundary: the elements, 4 n words; the keys of the faces, 4 n rows of 3 words, sorted with
+// the words behind them as scratch; where the elements are many they are first face rows of 4 words, ordered by counting (src/faces.rt).
+// Behind the keys three rows of 3 words for each boundary face about the edge, at most 36 n words; as many words of scratch. Then the
+// interior: the elements; seven rows of 4 words an element; as many words of scratch; where the elements are many, a table of the marks at
+// vertices, by which rows are left out (specs/inside/LinkTable.antt). A row is a simplex in rising order, its last vertex repeated up to the
 // row's width, and a mark: 1 from a simplex with a only, 2 with b only, 3 with both, 0 with neither.
 mod boundary;
 mod features;
@@ -31,11 +31,35 @@ ghost use Rattle.mesh.specs.Words.{pointsOf};
 ghost use Rattle.mesh.specs.Complex.{sub};
 ghost use Rattle.mesh.specs.Tests.{every, nodup};
 ghost use Rattle.mesh.specs.Element.{verticesOf, tets};
-ghost use Rattle.mesh.specs.Feature.{bitsOf, linkOk, stratumOf, linkFits, linkOkIn};
+ghost use Rattle.mesh.specs.Link.{boundaryAbout, boundaryOk};
+ghost use Rattle.mesh.specs.Feature.{bitsOf, featureOk, linkOk, stratumOf, linkFits, linkOkIn};
 ghost use Rattle.mesh.specs.Manifold.{Tested};
 ghost use Rattle.mesh.specs.inside.Manifold.{KeptBelow};
 
-// The three tests in the order of `link_ok`, of two different vertices a and b where the bits of a are b's.
+// The second and the third test, of two different vertices a and b where the bits of a are b's.
+fn surface_ok(
+    area: &mut [u32],
+    n: usize,
+    a: u32,
+    b: u32,
+    masks: &[u32],
+    parameters: &[f64],
+    nv: usize,
+    bounds: Bounds,
+) -> bool
+    requires { ⌜ (n ≤ 16384) × (88 * n ≤ length (now area)) × (every (λ t. nodup (verticesOf t)) (tets n (now area)) ≡ true) × (a ≢ b) ⌝ }
+    requires { ⌜ sub (bitsOf (stratumOf (now masks) (pointsOf nv (now parameters)) bounds a)) (bitsOf (stratumOf (now masks) (pointsOf nv (now parameters)) bounds b)) ≡ true ⌝ }
+    ensures { λ r. ⌜ (r ≡ (boundaryOk a b (tets n (now (area .entry))) && featureOk (stratumOf (now (masks .entry)) (pointsOf nv (now (parameters .entry))) bounds) a b (boundaryAbout a b (tets n (now (area .entry))))))
+        × KeptBelow (4 * n) (now (area .entry)) (now (area .exit)) ⌝ }
+{
+    let m = list_boundary(area, n, a, b);
+    if !boundary_ok_in(area, n, m) {
+        return false;
+    }
+    feature_ok_in(area, n, m, a, b, masks, parameters, nv, bounds)
+}
+
+// The three tests of `link_ok`. The interior comes last: its rows are the most.
 fn edge_ok(
     area: &mut [u32],
     n: usize,
@@ -50,14 +74,10 @@ fn edge_ok(
     requires { ⌜ sub (bitsOf (stratumOf (now masks) (pointsOf nv (now parameters)) bounds a)) (bitsOf (stratumOf (now masks) (pointsOf nv (now parameters)) bounds b)) ≡ true ⌝ }
     ensures { λ r. ⌜ (r ≡ linkOk (stratumOf (now (masks .entry)) (pointsOf nv (now (parameters .entry))) bounds) a b (tets n (now (area .entry)))) × KeptBelow (4 * n) (now (area .entry)) (now (area .exit)) ⌝ }
 {
-    if !interior_ok_in(area, n, a, b) {
+    if !surface_ok(area, n, a, b, masks, parameters, nv, bounds) {
         return false;
     }
-    let m = list_boundary(area, n, a, b);
-    if !boundary_ok_in(area, n, m) {
-        return false;
-    }
-    feature_ok_in(area, n, m, a, b, masks, parameters, nv, bounds)
+    interior_ok_in(area, n, a, b)
 }
 
 // Whether the bits of a are b's, and the edge passes `link_ok`.

@@ -1,7 +1,7 @@
 -- The link tests of an edge, call by call: what stands in the area, and that the answer is the definition's. Assumes nothing.
 use mathlib.Core.Path.{_≡_, refl, sym, ap, ap₂, subst, _∙_}
 use mathlib.Core.Logic.{_≢_}
-use mathlib.Core.Bool.{Bool, true, false, _&&_, and-false}
+use mathlib.Core.Bool.{Bool, true, false, _&&_, and-false, and-true}
 use mathlib.Core.List.{List, [], _++_, map}
 use Prim.Native.Nat.{ℕ, _+_, _-_, _*_, _≤_, _<_}
 use native.Mathlib.Omega.{arith}
@@ -103,43 +103,44 @@ module _ (stratum : ℕ → ℕ) (a b : ℕ) (ab : Bool) (s : List ℕ) (p k : �
 
 -- ---- the three tests
 
-module _ (a b n m : ℕ) (s₀ s₁ s₂ : List ℕ) (room : 88 * n ≤ length s₀) (d : every (λ t. nodup (verticesOf t)) (tets n s₀) ≡ true) (k₁ : KeptBelow (4 * n) s₀ s₁) where
+module _ (a b n : ℕ) {s₀ s₁ : List ℕ} (room : 88 * n ≤ length s₀) (d : every (λ t. nodup (verticesOf t)) (tets n s₀) ≡ true) (k : KeptBelow (4 * n) s₀ s₁) where
   pub kept-room : 88 * n ≤ length s₁
-  kept-room = omega (arith, k₁ .long)
+  kept-room = omega (arith, k .long)
 
-  module _ (k₂ : KeptBelow (4 * n) s₁ s₂) where
-    pub both-kept : KeptBelow (4 * n) s₀ s₂
-    both-kept = kept-both (4 * n) s₀ s₁ s₂ k₁ k₂
+  pub kept-distinct : every (λ t. nodup (verticesOf t)) (tets n s₁) ≡ true
+  kept-distinct = ap (every (λ t. nodup (verticesOf t))) (tets-kept n k) ∙ d
 
-    pub edge-rows : n ≤ 16384 → m ≤ 12 * n → a ≢ b → rows 3 m (drop (16 * n) s₂) ≡ sort leRow (rowsOfFaces a b (aloneFaces a b (tets n s₁))) → EdgeRows a b n m s₂
-    edge-rows f g ab e = record {
-      few = f;
-      fewer = g;
-      room = omega (arith, k₁ .long, k₂ .long);
-      apart = ab;
-      distinct = ap (every (λ t. nodup (verticesOf t))) (tets-kept n both-kept) ∙ d;
-      result = e ∙ ap (λ (ts : List Tet). sort leRow (rowsOfFaces a b (aloneFaces a b ts))) (sym (tets-kept n k₂));
-    }
+  pub edge-rows : {m : ℕ} → n ≤ 16384 → a ≢ b → (rows 3 m (drop (16 * n) s₁) ≡ sort leRow (rowsOfFaces a b (aloneFaces a b (tets n s₀)))) → m ≤ 12 * n → EdgeRows a b n m s₁
+  edge-rows f ab e g = record {
+    few = f;
+    fewer = g;
+    room = kept-room;
+    apart = ab;
+    distinct = kept-distinct;
+    result = e ∙ ap (λ (ts : List Tet). sort leRow (rowsOfFaces a b (aloneFaces a b ts))) (sym (tets-kept n k));
+  }
 
-    -- the tests after the first two calls are those of the elements at the start
-    pub boundary-start : (p : Bool) → p ≡ boundaryOk a b (tets n s₂) → p ≡ boundaryOk a b (tets n s₀)
-    boundary-start p e = e ∙ ap (boundaryOk a b) (tets-kept n both-kept)
+  -- the tests later on are those of the elements at the start
+  pub interior-start : (p : Bool) → p ≡ interiorOk a b (tets n s₁) → p ≡ interiorOk a b (tets n s₀)
+  interior-start p e = e ∙ ap (interiorOk a b) (tets-kept n k)
 
-    pub feature-start : (stratum : ℕ → ℕ) (p : Bool) → p ≡ featureOk stratum a b (boundaryAbout a b (tets n s₂)) → p ≡ featureOk stratum a b (boundaryAbout a b (tets n s₀))
-    feature-start stratum p e = e ∙ ap (λ (ts : List Tet). featureOk stratum a b (boundaryAbout a b ts)) (tets-kept n both-kept)
+  pub boundary-start : (p : Bool) → p ≡ boundaryOk a b (tets n s₁) → p ≡ boundaryOk a b (tets n s₀)
+  boundary-start p e = e ∙ ap (boundaryOk a b) (tets-kept n k)
+
+  pub feature-start : (stratum : ℕ → ℕ) (p : Bool) → p ≡ featureOk stratum a b (boundaryAbout a b (tets n s₁)) → p ≡ featureOk stratum a b (boundaryAbout a b (tets n s₀))
+  feature-start stratum p e = e ∙ ap (λ (ts : List Tet). featureOk stratum a b (boundaryAbout a b ts)) (tets-kept n k)
 
 module _ (stratum : ℕ → ℕ) (a b : ℕ) (ts : List Tet) where
-  pub interior-fails : interiorOk a b ts ≡ false → false ≡ linkOk stratum a b ts
-  unfolding linkOk
-  interior-fails h = sym (rw h refl)
+  abbrev surface : Bool
+  surface = boundaryOk a b ts && featureOk stratum a b (boundaryAbout a b ts)
 
-  pub boundary-fails : interiorOk a b ts ≡ true → boundaryOk a b ts ≡ false → false ≡ linkOk stratum a b ts
+  pub surface-fails : surface ≡ false → false ≡ linkOk stratum a b ts
   unfolding linkOk
-  boundary-fails h k = sym (rw (h, k) refl)
+  surface-fails h = sym (rw h (and-false (interiorOk a b ts)))
 
-  pub feature-decides : (r : Bool) → interiorOk a b ts ≡ true → boundaryOk a b ts ≡ true → r ≡ featureOk stratum a b (boundaryAbout a b ts) → r ≡ linkOk stratum a b ts
+  pub interior-decides : (r : Bool) → surface ≡ true → r ≡ interiorOk a b ts → r ≡ linkOk stratum a b ts
   unfolding linkOk
-  feature-decides r h k e = e ∙ sym (rw (h, k) refl)
+  interior-decides r h e = e ∙ sym (rw h (and-true (interiorOk a b ts)))
 
 -- a vertex with itself
 pub passes-self : (stratum : ℕ → ℕ) (a b : ℕ) (ts : List Tet) → every (λ t. nodup (verticesOf t)) ts ≡ true → a ≡ b → true ≡ (sub (bitsOf (stratum a)) (bitsOf (stratum b)) && linkOk stratum a b ts)
