@@ -8,9 +8,10 @@
 //  5 two elements on one side of a face
 //  6 two elements that meet in one vertex
 // 23 does not come from `plot`: it computes the surface that `flip` is given.
+use crate::meshes::elements;
 use crate::meshes::put_elements;
 use crate::meshes::put_points;
-use crate::meshes::sizes;
+use crate::meshes::vertices;
 use crate::show::bits;
 use crate::show::number;
 use crate::show::text;
@@ -204,8 +205,7 @@ fn options(mesh: u32) -> Options {
 fn put_file(mesh: u32, file: &mut [u8]) -> usize {
     let mut points = [7.0; 21];
     let mut corners = [7u32; 12];
-    let row = 16 + (mesh as usize);
-    let z = sizes(row);
+    let row = mesh as usize;
     put_points(row, &mut points);
     put_elements(row, &mut corners);
     let f = Field::Level(0.5);
@@ -213,8 +213,8 @@ fn put_file(mesh: u32, file: &mut [u8]) -> usize {
         options(mesh),
         1,
         [f, f, f, f, f, f, f, f],
-        z.vertices,
-        z.elements,
+        vertices(row),
+        elements(row),
         &points,
         &points,
         &[0u32; 7],

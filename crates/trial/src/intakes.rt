@@ -24,7 +24,7 @@ ghost use Prim.Native.Nat.{_+_, _≤_, _<_};
 ghost use lib.ListN.{length};
 
 // The row of the mesh's points in the table: all but the last vertex.
-const MESH: usize = 24;
+const MESH: usize = 7;
 
 // What a call is tried with: the sizes, the lengths of the slices, the faults, the pattern of the last
 // vertex's coordinate, and a second element in place of 0 2 1 4 (its four vertices as decimal digits).

@@ -2,11 +2,8 @@
 mod blocks;
 mod boxes;
 mod fields;
-mod flips;
 mod intakes;
 mod meshes;
-mod moves;
-mod passes;
 mod ranks;
 mod roots;
 mod scores;
@@ -21,8 +18,5 @@ fn main() {
     fields::run();
     words::run();
     intakes::run();
-    passes::run();
-    moves::run();
-    flips::run();
     blocks::run();
 }

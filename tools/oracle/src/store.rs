@@ -122,7 +122,7 @@ fn cases_text() -> String {
          # stands in the name), chosen so that every branch taken and every number stands in several.\n",
     );
     text += case::FORM;
-    let named = papers::cases();
+    let named = make::named();
     let total = named.len() + chosen.len();
     println!("{total} cases: {} named, {covering} cover, rest fill", named.len());
     text += &format!("# {total} cases.\n");

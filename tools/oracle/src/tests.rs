@@ -11,7 +11,7 @@ use crate::text::Reader;
 use crate::unit::Unit;
 
 fn answered(name: &str) -> Vec<Answer> {
-    let case = papers::cases().into_iter().find(|c| c.name == name).unwrap();
+    let case = make::named().into_iter().find(|c| c.name == name).unwrap();
     case.answer(&DOC01).into_iter().map(|a| a.0).collect()
 }
 
@@ -34,6 +34,25 @@ fn cases_of_document_01() {
     assert_eq!(counts("length-0.75h")[0], 0);
     assert_eq!(counts("length-under-0.75h")[0], 1);
     assert_eq!(counts("folded"), [1017]);
+    assert_eq!(counts("passes-17"), [1011, 1011, 1011]);
+}
+
+#[test]
+fn edges_as_calls() {
+    assert_eq!(counts("empty-spare"), [0, 0, 0]);
+    assert_eq!(counts("touching-wrong-surface"), [1022, 0, 1023]);
+    assert_eq!(counts("corner"), [3]);
+    assert_eq!(counts("corner-level"), [4]);
+    assert_eq!(counts("corner-level-empty-list"), [3]);
+    assert_eq!(counts("corner-level-one-region"), [4]);
+    assert_eq!(counts("flip-two-to-three"), [1]);
+    assert_eq!(counts("flip-three-to-two"), [1]);
+    assert_eq!(counts("flip-same-edge"), [1]);
+    assert_eq!(counts("flip-made-and-replaced"), [2]);
+    assert_eq!(counts("flip-wrong-triple"), [1023]);
+    for name in ["other-volume", "touching", "not-bad", "lower-score", "more-bad", "face-taken"] {
+        assert_eq!(counts(&format!("flip-{name}")), [0]);
+    }
 }
 
 #[test]

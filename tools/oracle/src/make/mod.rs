@@ -1,6 +1,7 @@
 //! The generator of cases: a seed and a size give one case, always the same.
 pub mod block;
 mod dress;
+mod edges;
 mod glue;
 pub mod papers;
 mod refuse;
@@ -267,6 +268,11 @@ fn dress(mut d: Dressed, kind: &str, r: &mut Random, bits: u32) -> Dressed {
         d.scatter_masks(r);
     }
     d
+}
+
+/// The cases that have a name of their own: those of the papers, then the edges as calls.
+pub fn named() -> Vec<Case> {
+    [papers::cases(), edges::cases()].concat()
 }
 
 /// One case.

@@ -49,6 +49,16 @@ fn case(name: &str, points: &[Point], tets: &[[usize; 4]], bounds: [f64; 6], cel
 const M4: [Point; 4] = [[0., 0., 0.], [1., 0., 0.], [0., 1., 0.], [0., 0., 1.]];
 const UNIT_BOX: [f64; 6] = [0., 1., 0., 1., 0., 1.];
 const LIMIT: f64 = 1_048_576.;
+/// Two corners that meet in vertex 0.
+pub const TOUCHING: [Point; 7] = [
+    [0., 0., 0.],
+    [1., 0., 0.],
+    [0., 1., 0.],
+    [0., 0., 1.],
+    [-1., 0., 0.],
+    [0., -1., 0.],
+    [0., 0., -1.],
+];
 
 /// An edge of the given length in a bad element, spacing 1: tried only if shorter than 0.75.
 fn length(name: &str, x: f64) -> Case {
@@ -57,13 +67,20 @@ fn length(name: &str, x: f64) -> Case {
     case(name, &points, &[[4, 1, 2, 3], [0, 4, 2, 3]], box_, 200)
 }
 
+/// 11 from each pass, on a mesh that `improve` would change.
+fn with_17_passes(mut c: Case) -> Case {
+    c.calls.iter_mut().for_each(|call| call.passes = 17);
+    c
+}
+
 fn far(name: &str, x: f64) -> Case {
     let mut c = case(name, &M4, &[[0, 1, 2, 3]], UNIT_BOX, 1);
     c.mesh.points[3] = x;
     c
 }
 
-/// The flip turns an element over by rounding: 17 at its end.
+/// Two elements whose new ones turn over by so little that the volume agrees: a face with equal
+/// parities, 17 at the end of `flip`.
 fn flip_only(mut c: Case) -> Case {
     c.calls.retain(|call| call.pass == Pass::Flip);
     c
@@ -71,30 +88,23 @@ fn flip_only(mut c: Case) -> Case {
 
 pub fn cases() -> Vec<Case> {
     let five = [[0., 0., 0.], [1., 0., 0.], [0., 1., 0.], [0., 0., 1.], [0.75, 0.75, 0.75]];
-    let touching = [
-        [0., 0., 0.],
-        [1., 0., 0.],
-        [0., 1., 0.],
-        [0., 0., 1.],
-        [-1., 0., 0.],
-        [0., -1., 0.],
-        [0., 0., -1.],
-    ];
     let folded =
         [[0., 0., 0.], [1., 0., 0.], [0.5, 3., 0.], [0.5, 0.3, 0.8], [0.5, -1e-10, -1e-13]];
     let wide = [-4., 4., -4., 4., -4., 4.];
+    let under = f64::from_bits(0.75f64.to_bits() - 1);
     vec![
         case("m4", &M4, &[[0, 1, 2, 3]], UNIT_BOX, 1),
         case("m5", &M4, &[[0, 1, 3, 2]], UNIT_BOX, 1),
         case("m12", &five, &[[0, 1, 2, 3], [1, 2, 3, 4]], UNIT_BOX, 1),
         case("empty", &[], &[], UNIT_BOX, 1),
         case("no-elements", &M4, &[], UNIT_BOX, 1),
-        case("touching", &touching, &[[0, 1, 2, 3], [0, 4, 6, 5]], wide, 8),
+        case("touching", &TOUCHING, &[[0, 1, 2, 3], [0, 4, 6, 5]], wide, 8),
         far("at-limit", LIMIT),
         far("over-limit", f64::from_bits(LIMIT.to_bits() + 1)),
         length("length-0.75h", 0.75),
-        length("length-under-0.75h", f64::from_bits(0.75f64.to_bits() - 1)),
+        length("length-under-0.75h", under),
         flip_only(case("folded", &folded, &[[0, 1, 2, 3], [0, 2, 1, 4]], wide, 8)),
+        with_17_passes(length("passes-17", under)),
     ]
 }
 
