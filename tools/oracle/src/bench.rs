@@ -16,7 +16,7 @@ fn bad_part(block: &Block) -> f64 {
 }
 
 /// A grid of n cells a side, jittered, then squeezed until a third of its elements is bad.
-fn distorted(n: usize) -> Block {
+pub fn distorted(n: usize) -> Block {
     let mut r = Random::new(n as u64);
     let mut block = Block::grid([n; 3]);
     block.jitter(&mut r, 0.4, true);
@@ -29,7 +29,7 @@ fn distorted(n: usize) -> Block {
 }
 
 /// A jittered grid pressed flat: nearly every element is bad.
-fn pressed(n: usize) -> Block {
+pub fn pressed(n: usize) -> Block {
     let mut r = Random::new(n as u64);
     let mut block = Block::grid([n; 3]);
     block.jitter(&mut r, 0.3, true);
@@ -38,7 +38,7 @@ fn pressed(n: usize) -> Block {
 }
 
 /// All elements around one edge: a ring of thin wedges.
-fn around_edge(n: usize) -> Block {
+pub fn around_edge(n: usize) -> Block {
     let turn = |i: usize| std::f64::consts::TAU * i as f64 / n as f64;
     let mut points = vec![[0., 0., 0.], [0., 0., 1.]];
     points.extend((0..n).map(|i| [10. * turn(i).cos(), 10. * turn(i).sin(), 0.5]));
@@ -46,20 +46,8 @@ fn around_edge(n: usize) -> Block {
     Block { points, tets }
 }
 
-/// Two fans about one axis with a vertex in its middle.
-fn fans(n: usize) -> Block {
-    let turn = |i: usize| std::f64::consts::TAU * i as f64 / n as f64;
-    let mut points = vec![[0., 0., 1.], [0., 0., 0.], [0., 0., -1.]];
-    points.extend((0..n).map(|i| [turn(i).cos(), turn(i).sin(), 0.]));
-    let pair = |i: usize| [3 + i, 3 + (i + 1) % n];
-    let upper = (0..n).map(|i| [1, pair(i)[0], pair(i)[1], 0]);
-    let lower = (0..n).map(|i| [2, pair(i)[0], pair(i)[1], 1]);
-    let tets = upper.chain(lower).collect();
-    Block { points, tets }
-}
-
 /// One vertex in all elements: the middle of a ball whose surface has `rings` rings of `sectors`.
-fn about_vertex(rings: usize, sectors: usize) -> Block {
+pub fn about_vertex(rings: usize, sectors: usize) -> Block {
     let place = |i: usize, j: usize| {
         let down = std::f64::consts::PI * (i + 1) as f64 / (rings + 1) as f64;
         let turn = std::f64::consts::TAU * j as f64 / sectors as f64;
@@ -94,7 +82,7 @@ fn few_groups(mesh: &mut Mesh, call: &Call, side: f64) {
 }
 
 /// Three rounds, spacing 1, one level through the block.
-fn call(pass: Pass, block: &Block, n: usize) -> Call {
+pub fn call(pass: Pass, block: &Block, n: usize) -> Call {
     let (lo, hi) = block.extent();
     Call {
         pass,
@@ -110,7 +98,7 @@ fn call(pass: Pass, block: &Block, n: usize) -> Call {
     }
 }
 
-fn port(mesh: &mut Mesh, call: &Call) -> (Duration, Answer) {
+pub fn port(mesh: &mut Mesh, call: &Call) -> (Duration, Answer) {
     let mut words = vec![1; call.words];
     let mut floats = vec![1.; call.floats];
     let clock = Instant::now();
@@ -198,41 +186,5 @@ pub fn report(runs: u64) {
     line("about a vertex", &about_vertex(45, 90), 20, None, runs);
     for side in [2., 4.] {
         line(&format!("in few groups, {side} a side"), &distorted(13), 13, Some(side), runs);
-    }
-}
-
-/// One call of `improve` with one cell a direction, so that nearly every edge is short enough to be tried.
-fn slow_line(name: &str, block: &Block, rounds: u32) {
-    let (mesh, mut call) = (mesh(block), call(Pass::Improve, block, 1));
-    call.passes = rounds;
-    let (mut ours, mut theirs) = (mesh.clone(), mesh.clone());
-    let (time, answer) = port(&mut ours, &call);
-    let clock = Instant::now();
-    let judged = shell::run(&DOC01, &mut theirs, &call);
-    let original = clock.elapsed();
-    assert!(answer == judged && ours.same(&theirs), "the two sides differ");
-    println!(
-        "| {name} | {} | {rounds} | {answer:?} | {:.2} | {:.2} |",
-        block.tets.len(),
-        time.as_secs_f64(),
-        original.as_secs_f64()
-    );
-}
-
-/// The slowest calls known, in seconds.
-pub fn slowest() {
-    println!("| Mesh | Elements | Rounds | Answer | Port | Original |");
-    println!("|---|---|---|---|---|---|");
-    let classes = [
-        ("two fans about an axis", fans(4093)),
-        ("around an edge, short spokes", around_edge(4094)),
-        ("about a vertex", about_vertex(45, 90)),
-        ("distorted 13", distorted(13)),
-        ("pressed 13", pressed(13)),
-    ];
-    for (name, block) in &classes {
-        for rounds in [1, 16] {
-            slow_line(name, block, rounds);
-        }
     }
 }

@@ -37,6 +37,8 @@ mod plot;
 mod plots;
 mod random;
 mod shell;
+#[cfg(feature = "bridge-passes")]
+mod slow;
 mod store;
 #[cfg(test)]
 mod tests;
@@ -63,6 +65,7 @@ oracle bench [RUNS]                 times of the port's passes, of intake and of
                                     (feature bridge-passes)
 oracle slowest                      the slowest calls of `improve` known, both sides once
                                     (feature bridge-passes; minutes)
+oracle slowest COUNT [SEED]         the slowest of COUNT drawn calls, the port alone
 oracle plot FILE                    what `plot` prints for a block file
 oracle plot-file SEED               write a generated block file to standard output
 oracle plots COUNT [SEED]           COUNT block files, whole and damaged, on the port's report function
@@ -110,8 +113,11 @@ fn bench(runs: u64) -> Result<(), String> {
 }
 
 #[cfg(feature = "bridge-passes")]
-fn slowest() -> Result<(), String> {
-    bench::slowest();
+fn slowest(words: &[String]) -> Result<(), String> {
+    match words {
+        [] => slow::known(),
+        [count, rest @ ..] => slow::search(number(Some(count), 100)?, number(rest.first(), 1)?),
+    }
     Ok(())
 }
 
@@ -121,7 +127,7 @@ fn bench(_: u64) -> Result<(), String> {
 }
 
 #[cfg(not(feature = "bridge-passes"))]
-fn slowest() -> Result<(), String> {
+fn slowest(_: &[String]) -> Result<(), String> {
     Err("slowest needs the port: build with --features bridge-passes".to_string())
 }
 
@@ -164,7 +170,7 @@ fn command(args: &[String]) -> Result<(), String> {
             agree::report(PASSES, number(rest.first(), 2000)?, number(rest.get(1), 1)?, &passes)
         }
         Some("bench") => bench(number(rest.first(), 5)?),
-        Some("slowest") => slowest(),
+        Some("slowest") => slowest(rest),
         Some("plot") => print_plot(rest.first().ok_or("plot: a file is needed")?),
         Some("plot-file") => write_plot(number(rest.first(), 1)?),
         Some("plots") => plots::report(PLOT, number(rest.first(), 2000)?, number(rest.get(1), 1)?),
