@@ -1,5 +1,7 @@
 -- `mesh::measure::determinant_of` meets its contract. Assumes nothing.
 use borrow.Author.Needs.{needs}
+use mathlib.Core.Path.{_∙_}
+use Rattle.geometry.specs.Point.{determinant}
 use Rattle.mesh.proofs.measure.determinant_of.Statement.{statement}
 use Rattle.mesh.proofs.measure.determinant_of.Tie as tie
 
@@ -19,7 +21,7 @@ determinant-requires : tie.Need-determinant-requires
 determinant-requires c κs = search needs
 
 returns : tie.Need-returns
-returns c = cc
+returns c = c .determinant .ensures ∙ (λ i. determinant (c .before .before .before .before .vertex-point .ensures i) (c .before .before .before .vertex-point2 .ensures i) (c .before .before .vertex-point3 .ensures i) (c .before .vertex-point4 .ensures i))
 
 pub determinant-of-spec : {M : Type 1} → statement M
 determinant-of-spec =

@@ -1,5 +1,7 @@
 -- `mesh::measure::edge_length` meets its contract. Assumes nothing.
 use borrow.Author.Needs.{needs}
+use mathlib.Core.Path.{ap, ap₂, _∙_}
+use Rattle.geometry.specs.Point.{difference, norm}
 use Rattle.mesh.proofs.measure.edge_length.Statement.{statement}
 use Rattle.mesh.proofs.measure.edge_length.Tie as tie
 
@@ -16,7 +18,7 @@ norm-requires : tie.Need-norm-requires
 norm-requires c κs = search needs
 
 returns : tie.Need-returns
-returns c = cc
+returns c = c .norm .ensures ∙ ap norm (c .before .sub .ensures ∙ ap₂ difference (c .before .before .before .vertex-point .ensures) (c .before .before .vertex-point2 .ensures))
 
 pub edge-length-spec : {M : Type 1} → statement M
 edge-length-spec =

@@ -1,5 +1,7 @@
 -- `mesh::measure::measured_of` meets its contract. Assumes nothing.
 use borrow.Author.Needs.{needs}
+use mathlib.Core.Path.{_∙_}
+use Rattle.mesh.specs.Measure.{measuredAt}
 use Rattle.mesh.proofs.measure.measured_of.Statement.{statement}
 use Rattle.mesh.proofs.measure.measured_of.Tie as tie
 
@@ -19,7 +21,7 @@ measured-at-requires : tie.Need-measured-at-requires
 measured-at-requires c κs = search needs
 
 returns : tie.Need-returns
-returns c = cc
+returns c = c .measured-at .ensures ∙ (λ i. measuredAt (c .before .before .before .before .vertex-point .ensures i) (c .before .before .before .vertex-point2 .ensures i) (c .before .before .vertex-point3 .ensures i) (c .before .vertex-point4 .ensures i))
 
 pub measured-of-spec : {M : Type 1} → statement M
 measured-of-spec =

@@ -1,5 +1,7 @@
 -- `mesh::measure::score_of` meets its contract. Assumes nothing.
 use borrow.Author.Needs.{needs}
+use mathlib.Core.Path.{_∙_}
+use Rattle.geometry.specs.Score.{score}
 use Rattle.mesh.proofs.measure.score_of.Statement.{statement}
 use Rattle.mesh.proofs.measure.score_of.Tie as tie
 
@@ -19,7 +21,7 @@ score-requires : tie.Need-score-requires
 score-requires c κs = search needs
 
 returns : tie.Need-returns
-returns c = cc
+returns c = c .score .ensures ∙ (λ i. score (c .before .before .before .before .vertex-point .ensures i) (c .before .before .before .vertex-point2 .ensures i) (c .before .before .vertex-point3 .ensures i) (c .before .vertex-point4 .ensures i))
 
 pub score-of-spec : {M : Type 1} → statement M
 score-of-spec =

@@ -29,7 +29,7 @@ float-requires-3 c κs = search needs
 
 returns-2 : tie.Need-returns-2
 unfolding pointIn
-returns-2 c = cc
+returns-2 c = λ i. record { x = c .before .before .float .ensures i; y = c .before .float2 .ensures i; z = c .float3 .ensures i }
 
 pub point-at-spec : {M : Type 1} → statement M
 point-at-spec =

@@ -1,5 +1,6 @@
 -- `mesh::vertex::tet_at` meets its contract: past the end all four words are 0. Assumes nothing.
 use borrow.Author.Needs.{needs}
+use Rattle.mesh.specs.Element.{tet}
 use Rattle.mesh.specs.inside.Intake.{tetAt}
 use Rattle.mesh.proofs.Laws.Intake.Reads.{tet-past}
 use Rattle.mesh.proofs.vertex.tet_at.Statement.{statement}
@@ -34,7 +35,7 @@ word-requires-4 c κs = search needs
 
 returns-2 : tie.Need-returns-2
 unfolding tetAt
-returns-2 c = cc
+returns-2 c = λ i. tet (c .before .before .before .word .ensures i) (c .before .before .word2 .ensures i) (c .before .word3 .ensures i) (c .word4 .ensures i)
 
 pub tet-at-spec : {M : Type 1} → statement M
 tet-at-spec =
