@@ -1,5 +1,6 @@
 -- `repair::quality::element_from` meets its contract. Assumes nothing.
 use borrow.Author.Needs.{needs}
+use Rattle.mesh.specs.Element.{tet}
 use Rattle.repair.proofs.Laws.Gain.Tallies.{element-past}
 use Rattle.repair.proofs.quality.element_from.Statement.{statement}
 use Rattle.repair.proofs.quality.element_from.Tie as tie
@@ -29,7 +30,7 @@ word-requires-4 : tie.Need-word-requires-4
 word-requires-4 c κs = search needs
 
 returns-2 : tie.Need-returns-2
-returns-2 c = cc
+returns-2 c = λ i. tet (c .before .before .before .word .ensures i) (c .before .before .word2 .ensures i) (c .before .word3 .ensures i) (c .word4 .ensures i)
 
 pub element-from-spec : {M : Type 1} → statement M
 element-from-spec =

@@ -3,6 +3,8 @@ use Rattle.mesh.specs.Words.{pointsOf}
 use Rattle.mesh.specs.Measure.{measure}
 use Rattle.repair.proofs.Laws.Gain.Tallies.{Tallying, tally-start, tally-turn, tally-end}
 use borrow.Author.Needs.{needs}
+use mathlib.Core.Path.{ap, _∙_}
+use Rattle.repair.specs.inside.Quality.{counted}
 use Rattle.repair.proofs.quality.tally_elements.Statement.{statement}
 use Rattle.repair.proofs.quality.tally_elements.Tie as tie
 
@@ -37,7 +39,7 @@ loop-less : tie.Need-loop-less Inv-loop μ-loop
 loop-less c = search needs
 
 loop-again : tie.Need-loop-again Inv-loop μ-loop
-loop-again c = tally-turn (measure (pointsOf (c .before .before .before .before .before .before .before .before .args .nv) (c .before .before .before .before .before .before .before .before .args .points .now))) (c .before .before .before .before .loop .inv) (c .before .before .before .loop-test .taken) _ (c .before .before .element-from .ensures) _ (cc)
+loop-again c = tally-turn (measure (pointsOf (c .before .before .before .before .before .before .before .before .args .nv) (c .before .before .before .before .before .before .before .before .args .points .now))) (c .before .before .before .before .loop .inv) (c .before .before .before .loop-test .taken) _ (c .before .before .element-from .ensures) _ (c .counted .ensures ∙ ap (counted (c .before .before .before .before .loop .r)) (c .before .score-of .ensures))
 
 returns : tie.Need-returns Inv-loop μ-loop
 returns c = tally-end (measure (pointsOf (c .before .before .before .before .before .args .nv) (c .before .before .before .before .before .args .points .now))) (c .before .loop .inv) (c .loop-test .left)

@@ -1,5 +1,12 @@
 -- `repair::flip::finish::put_key` meets its contract. Assumes nothing.
 use borrow.Author.Needs.{needs}
+use mathlib.Core.Path.{ap, _∙_}
+use mathlib.Core.List.{List}
+use Prim.Native.Nat.{ℕ, _+_}
+use lib.ListN.{set}
+use Rattle.mesh.specs.declared.element.Triple.{Triple}
+use Rattle.mesh.specs.Element.{keyOf}
+use Rattle.repair.specs.inside.flip.Layout.{withTriple}
 use Rattle.repair.proofs.flip.finish.put_key.Statement.{statement}
 use Rattle.repair.proofs.flip.finish.put_key.Tie as tie
 
@@ -28,7 +35,10 @@ same-length : tie.Need-same-length
 same-length c = search needs
 
 returns : tie.Need-returns
-returns c = cc
+returns c =
+    let a = (c .before .before .before .before .before .before .before .before .before .before .before .before .before .before .before .before .args) in
+    let g = c .before .before .before .before .before .before .before .before .before .before .before .before .face-key .result in
+    c .before .before .put-word3 .ensures ∙ ap (λ (w : List ℕ). set w (a .d + 2) (g .c)) (c .before .before .before .before .before .before .put-word2 .ensures ∙ ap (λ (w : List ℕ). set w (a .d + 1) (g .b)) (c .before .before .before .before .before .before .before .before .before .before .put-word .ensures)) ∙ ap (λ (f : Triple). withTriple f (a .d) (a .area .now)) (c .before .before .before .before .before .before .before .before .before .before .before .before .face-key .ensures ∙ ap keyOf (c .before .before .before .before .before .before .before .before .before .before .before .before .before .triple-from .ensures))
 
 pub put-key-spec : {M : Type 1} → statement M
 put-key-spec =

@@ -1,5 +1,9 @@
 -- `repair::flip::slots::put_slot` meets its contract. Assumes nothing.
 use borrow.Author.Needs.{needs}
+use mathlib.Core.Path.{ap, _∙_}
+use mathlib.Core.List.{List}
+use Prim.Native.Nat.{ℕ, _+_, _*_}
+use lib.ListN.{set}
 use Rattle.repair.proofs.flip.slots.put_slot.Statement.{statement}
 use Rattle.repair.proofs.flip.slots.put_slot.Tie as tie
 
@@ -35,7 +39,10 @@ same-length c = search needs
 
 returns : tie.Need-returns
 unfolding Rattle.repair.specs.inside.improve.Collapse.putSlot
-returns c = cc
+returns c =
+    let a = (c .before .before .before .before .before .before .before .before .before .before .before .before .before .before .before .before .before .before .args) in
+    let p = a .x .slots + 4 * a .e in
+    c .before .before .put-word4 .ensures ∙ ap (λ (w : List ℕ). set w (p + 3) (a .t .d)) (c .before .before .before .before .before .before .put-word3 .ensures ∙ ap (λ (w : List ℕ). set w (p + 2) (a .t .c)) (c .before .before .before .before .before .before .before .before .before .before .put-word2 .ensures ∙ ap (λ (w : List ℕ). set w (p + 1) (a .t .b)) (c .before .before .before .before .before .before .before .before .before .before .before .before .before .before .put-word .ensures)))
 
 pub put-slot-spec : {M : Type 1} → statement M
 put-slot-spec =

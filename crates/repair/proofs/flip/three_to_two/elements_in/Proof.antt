@@ -13,7 +13,7 @@ slot-requires-3 : tie.Need-slot-requires-3
 slot-requires-3 c κs = search needs
 
 returns : tie.Need-returns
-returns c = cc
+returns c = λ i. record { count = 3; a = c .before .before .slot .ensures i; b = c .before .slot2 .ensures i; c = c .slot3 .ensures i }
 
 pub elements-in-spec : {M : Type 1} → statement M
 elements-in-spec =

@@ -4,6 +4,10 @@ use Rattle.geometry.specs.declared.point.Point.{Point}
 use Rattle.geometry.specs.Rank.{rank}
 use Rattle.mesh.specs.inside.Intake.{pointIn}
 use borrow.Author.Needs.{needs}
+use mathlib.Core.List.{[], _∷_}
+use Rattle.geometry.specs.declared.bounds.Ranks.{Ranks}
+use Rattle.mesh.specs.inside.Rows.{firstAtLeast}
+use Rattle.mesh.specs.inside.Group.{rankWords}
 use Rattle.repair.proofs.improve.partners.group_start.Statement.{statement}
 use Rattle.repair.proofs.improve.partners.group_start.Tie as tie
 
@@ -41,7 +45,7 @@ first-at-least-requires : tie.Need-first-at-least-requires
 first-at-least-requires c κs = search needs
 
 returns : tie.Need-returns
-returns c = let r : c .before .before .before .before .before .before .before .before .rank .result ≡ rank (pointIn (c .before .before .before .before .before .before .before .before .before .before .before .before .before .args .parameters .now) (c .before .before .before .before .before .before .before .before .before .before .before .before .before .args .v)) (c .before .before .before .before .before .before .before .before .before .before .before .before .before .args .o) = c .before .before .before .before .before .before .before .before .rank .ensures ∙ ap (λ (p : Point). rank p (c .before .before .before .before .before .before .before .before .before .before .before .before .before .args .o)) (c .before .before .before .before .before .before .before .before .before .point-at .ensures ∙ ap (pointIn (c .before .before .before .before .before .before .before .before .before .before .before .before .before .args .parameters .now)) (c .before .before .before .before .before .before .before .before .before .before .wide .ensures .0)) in cc
+returns c = let r : c .before .before .before .before .before .before .before .before .rank .result ≡ rank (pointIn (c .before .before .before .before .before .before .before .before .before .before .before .before .before .args .parameters .now) (c .before .before .before .before .before .before .before .before .before .before .before .before .before .args .v)) (c .before .before .before .before .before .before .before .before .before .before .before .before .before .args .o) = c .before .before .before .before .before .before .before .before .rank .ensures ∙ ap (λ (p : Point). rank p (c .before .before .before .before .before .before .before .before .before .before .before .before .before .args .o)) (c .before .before .before .before .before .before .before .before .before .point-at .ensures ∙ ap (pointIn (c .before .before .before .before .before .before .before .before .before .before .before .before .before .args .parameters .now)) (c .before .before .before .before .before .before .before .before .before .before .wide .ensures .0)) in c .first-at-least .ensures ∙ (λ i. firstAtLeast (c .before .before .before .before .before .before .before .before .before .before .before .before .before .args .n) 7 (c .before .before .before .before .before .before .before .high-half .ensures i ∷ c .before .before .before .before .before .before .low-half .ensures i ∷ c .before .before .before .before .before .high-half2 .ensures i ∷ c .before .before .before .before .low-half2 .ensures i ∷ c .before .before .before .high-half3 .ensures i ∷ c .before .before .low-half3 .ensures i ∷ []) (c .before .before .before .before .before .before .before .before .before .before .before .before .before .args .work .now)) ∙ ap (λ (u : Ranks). firstAtLeast (c .before .before .before .before .before .before .before .before .before .before .before .before .before .args .n) 7 (rankWords u) (c .before .before .before .before .before .before .before .before .before .before .before .before .before .args .work .now)) r
 
 pub group-start-spec : {M : Type 1} → statement M
 group-start-spec =

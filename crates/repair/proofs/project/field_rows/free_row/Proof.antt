@@ -9,7 +9,7 @@ held-requires c κs = search needs
 
 returns : tie.Need-returns
 unfolding ofBits
-returns c = cc
+returns c = λ i. record { value = c .before .before .args .r .value; gradient = c .held .ensures i }
 
 pub free-row-spec : {M : Type 1} → statement M
 free-row-spec = tie.close (tie.spec held-requires returns)

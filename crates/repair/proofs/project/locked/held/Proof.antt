@@ -13,7 +13,7 @@ choose-requires-3 : tie.Need-choose-requires-3
 choose-requires-3 c κs = search needs
 
 returns : tie.Need-returns
-returns c = cc
+returns c = λ i. record { x = c .before .before .choose .ensures i; y = c .before .choose2 .ensures i; z = c .choose3 .ensures i }
 
 pub held-spec : {M : Type 1} → statement M
 held-spec = tie.close (tie.spec choose-requires choose-requires-2 choose-requires-3 returns)

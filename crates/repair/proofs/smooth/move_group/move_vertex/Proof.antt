@@ -1,6 +1,7 @@
 -- `repair::smooth::move_group::move_vertex` meets its contract. Assumes nothing.
 use mathlib.Core.Path.{_≡_, ap, _∙_}
-use Rattle.repair.specs.Smooth.{mapped}
+use Rattle.geometry.specs.declared.point.Point.{Point}
+use Rattle.repair.specs.Smooth.{mapped, keptOn}
 use Rattle.repair.specs.inside.smooth.Site.{newParameters}
 use Rattle.repair.proofs.Laws.Site.Moved.{put-as}
 use borrow.Author.Needs.{needs}
@@ -30,7 +31,7 @@ same-length-2 c = search needs
 
 returns : tie.Need-returns
 returns c = let a = c .before .before .before .before .before .before .before .before .before .before .before .before .before .before .args in
-    let e : c .before .before .before .before .before .before .before .before .before .kept-on .result ≡ newParameters (a .o) (a .nv) (a .parameters .now) (a .p) (a .v) = cc in (
+    let e : c .before .before .before .before .before .before .before .before .before .kept-on .result ≡ newParameters (a .o) (a .nv) (a .parameters .now) (a .p) (a .v) = c .before .before .before .before .before .before .before .before .before .kept-on .ensures ∙ ap (λ (q : Point). keptOn (a .o) q (a .p)) (c .before .before .before .before .before .before .before .before .before .before .vertex-point .ensures) in (
       put-as (a .nv) (a .v) (a .parameters .now) _ e (c .before .before .before .before .before .before .put-point .ensures),
       put-as (a .nv) (a .v) (a .points .now) _ (c .before .before .before .before .before .before .before .before .mapped .ensures ∙ ap mapped e) (c .before .before .put-point2 .ensures),
     )

@@ -1,6 +1,11 @@
 -- `repair::smooth::move_group::put_point` meets its contract. Assumes nothing.
 use Rattle.repair.proofs.Laws.Site.Moved.{put-past, put-three}
 use borrow.Author.Needs.{needs}
+use mathlib.Core.Path.{ap, _∙_}
+use mathlib.Core.List.{List}
+use Prim.Native.Nat.{_+_, _*_}
+use lib.Ieee.{Float}
+use lib.ListN.{set}
 use Rattle.repair.proofs.smooth.move_group.put_point.Statement.{statement}
 use Rattle.repair.proofs.smooth.move_group.put_point.Tie as tie
 
@@ -35,7 +40,8 @@ same-length : tie.Need-same-length
 same-length c = search needs
 
 returns-2 : tie.Need-returns-2
-returns-2 c = put-three (c .before .before .before .before .before .before .before .before .before .before .before .before .before .before .args .nv) (c .before .before .before .before .before .before .before .before .before .before .before .before .before .before .args .points .now) _ (c .before .before .before .before .before .before .before .before .before .before .before .before .before .before .args .v) (c .before .before .before .before .before .before .before .before .before .before .before .before .before .before .args .p) (c .before .before .before .before .before .before .before .before .before .before .before .before .if1 .left) (c .before .before .before .before .before .before .before .before .before .before .before .before .before .before .pre .1) cc
+returns-2 c = put-three (c .before .before .before .before .before .before .before .before .before .before .before .before .before .before .args .nv) (c .before .before .before .before .before .before .before .before .before .before .before .before .before .before .args .points .now) _ (c .before .before .before .before .before .before .before .before .before .before .before .before .before .before .args .v) (c .before .before .before .before .before .before .before .before .before .before .before .before .before .before .args .p) (c .before .before .before .before .before .before .before .before .before .before .before .before .if1 .left) (c .before .before .before .before .before .before .before .before .before .before .before .before .before .before .pre .1)
+    (c .before .before .put-float3 .ensures ∙ ap (λ (s : List Float). set s (3 * c .before .before .before .before .before .before .before .before .before .before .before .before .before .before .args .v + 2) (c .before .before .before .before .before .before .before .before .before .before .before .before .before .before .args .p .z)) (c .before .before .before .before .before .before .put-float2 .ensures ∙ ap (λ (s : List Float). set s (3 * c .before .before .before .before .before .before .before .before .before .before .before .before .before .before .args .v + 1) (c .before .before .before .before .before .before .before .before .before .before .before .before .before .before .args .p .y)) (c .before .before .before .before .before .before .before .before .before .before .put-float .ensures)))
 
 pub put-point-spec : {M : Type 1} → statement M
 put-point-spec =

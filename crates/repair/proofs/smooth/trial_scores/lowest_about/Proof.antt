@@ -51,7 +51,7 @@ loop-again c =
     let ps = pointsOf (c .before .before .before .before .before .before .before .before .before .args .s .vertices) (c .before .before .before .before .before .before .before .before .before .args .points .now) in
     let els = c .before .before .before .before .before .before .before .before .before .args .elements .now in
     let w = c .before .before .before .before .before .before .before .before .before .args .work .now in
-    let e : c .smaller .result ≡ smaller (c .before .before .before .before .before .loop .low) (scoreOf ps (tetAt els (wordAt w (c .before .before .before .before .before .loop .i)))) = cc in
+    let e : c .smaller .result ≡ smaller (c .before .before .before .before .before .loop .low) (scoreOf ps (tetAt els (wordAt w (c .before .before .before .before .before .loop .i)))) = c .smaller .ensures ∙ ap (smaller (c .before .before .before .before .before .loop .low)) (c .before .score-of .ensures ∙ ap (scoreOf ps) (c .before .before .tet-at .ensures ∙ ap (tetAt els) (c .before .before .before .word .ensures))) in
     (omega (arith, c .before .before .before .before .before .loop .inv .0), ap (lowLeft els w ps (c .before .before .before .before .before .loop .i + 1) (c .before .before .before .before .before .loop .left - 1)) e ∙ low-turn els w ps (c .before .before .before .before .before .loop .i) (c .before .before .before .before .before .loop .left) (c .before .before .before .before .before .loop .low) (c .before .before .before .before .loop-test .taken) ∙ c .before .before .before .before .before .loop .inv .1)
 
 returns : tie.Need-returns Inv-loop μ-loop

@@ -1,5 +1,7 @@
 -- `repair::smooth::trial_scores::measure_element` meets its contract. Assumes nothing.
 use borrow.Author.Needs.{needs}
+use mathlib.Core.Path.{_∙_}
+use Rattle.mesh.specs.Measure.{measuredAt}
 use Rattle.repair.proofs.smooth.trial_scores.measure_element.Statement.{statement}
 use Rattle.repair.proofs.smooth.trial_scores.measure_element.Tie as tie
 
@@ -19,7 +21,7 @@ measured-at-requires : tie.Need-measured-at-requires
 measured-at-requires c κs = search needs
 
 returns : tie.Need-returns
-returns c = cc
+returns c = c .measured-at .ensures ∙ (λ i. measuredAt (c .before .before .before .before .trial-point .ensures i) (c .before .before .before .trial-point2 .ensures i) (c .before .before .trial-point3 .ensures i) (c .before .trial-point4 .ensures i))
 
 pub measure-element-spec : {M : Type 1} → statement M
 measure-element-spec =

@@ -1,6 +1,8 @@
 -- `repair::smooth::trial_scores::trial_point` meets its contract. Assumes nothing.
-use mathlib.Core.Path.{_≡_, _∙_}
+use mathlib.Core.Path.{_≡_, ap, _∙_}
+use Rattle.geometry.specs.declared.point.Point.{Point}
 use Rattle.mesh.proofs.Laws.Intake.Chains.{fails-by, holds-by}
+use Rattle.repair.specs.Smooth.{mapped, keptOn}
 use Rattle.repair.specs.inside.smooth.Site.{newPoint}
 use Rattle.repair.proofs.Laws.Site.Moved.{trial-past, trial-other, trial-at}
 use borrow.Author.Needs.{needs}
@@ -30,7 +32,7 @@ mapped-requires c κs = search needs
 
 returns-3 : tie.Need-returns-3
 returns-3 c = let a = c .before .before .before .before .before .before .before .before .before .before .before .args in
-    let e : c .mapped .result ≡ newPoint (a .o) (a .s .vertices) (a .parameters .now) (a .p) (a .v) = cc in
+    let e : c .mapped .result ≡ newPoint (a .o) (a .s .vertices) (a .parameters .now) (a .p) (a .v) = c .mapped .ensures ∙ ap mapped (c .before .kept-on .ensures ∙ ap (λ (q : Point). keptOn (a .o) q (a .p)) (c .before .before .vertex-point2 .ensures)) in
     e ∙ trial-at (a .o) (a .parameters .now) (a .points .now) (a .work .now) (a .s) (a .p) (a .v) (c .before .before .before .before .before .if1 .left) (holds-by (c .before .before .before .before .is-member .ensures) (c .before .before .before .if2 .left))
 
 pub trial-point-spec : {M : Type 1} → statement M
