@@ -48,10 +48,10 @@ finish-flip-requires : tie.Need-finish-flip-requires
 finish-flip-requires c κs = end-room (c .before .before .before .before .before .before .before .before .before .before .before .before .before .before .before .before .before .before .before .before .before .before .before .before .before .before .before .before .args .sizes) (c .before .before .before .before .before .before .before .before .before .before .before .before .before .before .before .before .before .before .before .before .before .before .before .before .before .before .before .before .args .points .now) (c .before .before .before .before .before .before .before .before .before .before .before .before .before .before .before .before .before .before .before .before .before .before .before .before .before .before .before .before .args .elements .now) (c .before .before .before .before .before .before .before .before .before .before .before .before .before .before .before .before .before .before .before .before .before .before .before .before .before .before .before .before .args .surface .now) (c .before .before .before .before .before .before .before .before .before .before .before .before .before .before .before .before .before .before .before .before .before .before .before .before .before .before .before .before .args .work .now) (c .before .before .before .before .before .before .before .before .before .before .before .before .before .before .before .before .before .before .before .before .before .before .before .before .before .before .before .before .pre) (c .before .before .before .before .before .before .before .before .before .before .before .before .before .before .before .before .before .before .before .before .before .flip-layout .result) (c .before .before .before .before .before .before .before .before .before .before .before .before .before .before .before .before .before .before .before .before .before .flip-layout .ensures .0) (c .before .before .before .before .before .before .before .before .before .before .before .before .before .before .before .before .before .before .begin-flip .result) (c .before .before .before .before .before .before .before .before .before .before .before .before .before .before .before .before .before .before .begin-flip .last .0) (c .before .before .before .before .before .before .before .before .before .before .before .before .before .before .before .before .before .before .begin-flip .ensures) (c .before .before .before .before .before .before .before .before .before .before .before .before .before .before .try-faces .last .0) (c .before .before .before .before .before .before .before .before .before .before .before .before .before .before .try-faces .result) (c .before .before .before .before .before .before .before .before .before .before .before .before .before .before .try-faces .ensures .0) (c .before .before .before .before .before .before .before .before .before .before .try-edges .last .0) (c .before .before .before .before .before .before .before .before .before .before .try-edges .result) (c .before .before .before .before .before .before .before .before .before .before .try-edges .ensures .0) (c .before .before .before .before .before .live-elements .result) (c .before .before .before .before .before .live-elements .ensures .0) (c .before .before .before .before .before .live-elements .last .0) (c .before .before .before .before .before .live-elements .ensures .1)
 
 same-length : tie.Need-same-length
-same-length c = search needs
+same-length c = c .before .before .before .before .before .before .finish-flip .kept .1 .1 .1 .0
 
 same-length-2 : tie.Need-same-length-2
-same-length-2 c = search needs
+same-length-2 c = c .before .before .before .before .before .before .finish-flip .kept .1 .1 .1 .1 .0
 
 same-length-3 : tie.Need-same-length-3
 same-length-3 c = search needs

@@ -4,6 +4,7 @@ use Rattle.repair.specs.Step.{regionsOf}
 use Rattle.repair.proofs.Laws.Answers.{in-numbers}
 use Rattle.repair.proofs.Laws.Site.Pass.{pass-refused, fits, numbered, part-long, work-zeros, pass-done}
 use borrow.Author.Needs.{needs}
+use mathlib.Core.Path.{refl}
 use Rattle.repair.proofs.smooth.smooth.Statement.{statement}
 use Rattle.repair.proofs.smooth.smooth.Tie as tie
 
@@ -11,16 +12,16 @@ intake-requires : tie.Need-intake-requires
 intake-requires c κs = search needs
 
 same-length : tie.Need-same-length
-same-length c = search needs
+same-length c = refl
 
 same-length-2 : tie.Need-same-length-2
-same-length-2 c = search needs
+same-length-2 c = refl
 
 same-length-3 : tie.Need-same-length-3
-same-length-3 c = search needs
+same-length-3 c = c .before .before .before .before .before .intake .kept .1 .1 .1 .1 .1 .1 .1 .0
 
 same-length-4 : tie.Need-same-length-4
-same-length-4 c = search needs
+same-length-4 c = c .before .before .before .before .before .intake .kept .1 .1 .1 .1 .1 .1 .1 .1 .0
 
 returns : tie.Need-returns
 returns c =
@@ -62,16 +63,16 @@ smooth-in-requires c κs =
     ((f .vertices, f .elements, omega (arith, l, u)), ((omega (arith, f .slots), numbered (a .s) (a .fields) R (a .parameters .now) (a .points .now) (a .masks .now) (a .elements .now) (a .surface .now) (a .work .now) (a .floats .now) (i .result) (i .ensures .0) (c .before .before .before .before .before .if1 .left)), (f .parameters, f .points)))
 
 same-length-5 : tie.Need-same-length-5
-same-length-5 c = search needs
+same-length-5 c = c .before .before .before .before .before .before .smooth-in .kept .1 .1 .1 .1 .0
 
 same-length-6 : tie.Need-same-length-6
-same-length-6 c = search needs
+same-length-6 c = c .before .before .before .before .before .before .smooth-in .kept .1 .1 .1 .1 .1 .0
 
 same-length-7 : tie.Need-same-length-7
 same-length-7 c = search needs
 
 same-length-8 : tie.Need-same-length-8
-same-length-8 c = search needs
+same-length-8 c = c .before .before .before .before .before .before .before .before .before .before .before .before .before .before .before .before .before .intake .kept .1 .1 .1 .1 .1 .1 .1 .1 .0
 
 returns-2 : tie.Need-returns-2
 returns-2 c =
