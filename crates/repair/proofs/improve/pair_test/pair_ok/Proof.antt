@@ -52,7 +52,7 @@ elements-link-requires : tie.Need-elements-link-requires
 elements-link-requires c κs = ready (c .before .before .before .before .before .before .before .before .before .before .before .before .before .before .before .before .before .before .before .before .before .args .x) (c .before .before .before .before .before .before .before .before .before .before .before .before .before .before .before .before .before .before .before .before .before .args .n) (c .before .before .before .before .before .before .before .before .before .before .before .before .before .before .before .before .before .before .before .before .before .args .p) (c .before .before .before .before .before .before .before .before .before .before .before .before .before .before .before .before .before .before .before .before .before .args .work .now) (c .before .before .before .before .before .before .before .before .before .before .before .before .before .before .before .before .before .before .before .before .before .pre .0) (c .before .before .before .before .before .before .before .before .before .before .before .before .before .before .before .before .before .before .before .before .before .pre .1) _ _ _ (c .before .before .before .before .before .before .before .before .before .before .before .before .before .before .before .before .pairs-at .ensures) (c .before .before .before .before .before .before .before .before .before .before .before .before .before .before .word .ensures) (c .before .before .before .before .before .before .before .before .before .before .before .before .word2 .ensures) _ _ _ (c .before .before .before .before .before .before .before .before .star .ensures .0) (c .before .before .before .before .before .before .before .before .star .ensures .1) (c .before .before .before .before .elements-at .ensures)
 
 same-length-2 : tie.Need-same-length-2
-same-length-2 c = search needs
+same-length-2 c = c .before .before .elements-link .kept .0 ∙ c .before .before .before .before .before .before .before .elements-at .kept .0 ∙ c .before .before .before .before .before .before .before .before .before .before .before .star .kept .0
 
 returns-2 : tie.Need-returns-2
 returns-2 c = (
