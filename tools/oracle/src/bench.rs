@@ -136,11 +136,7 @@ fn measure(mesh: &Mesh, call: &Call, runs: u64) -> (Times, usize) {
     let mut told = mesh.clone();
     let answer = shell::run(&DOC01, &mut told, call);
     let Answer::Done(changed, _) = answer else { panic!("the original refused: {answer:?}") };
-    let mut best = Times {
-        port: Duration::MAX,
-        intake: Duration::MAX,
-        original: Duration::MAX,
-    };
+    let mut best = Times { port: Duration::MAX, intake: Duration::MAX, original: Duration::MAX };
     for _ in 0..runs {
         let mut made = mesh.clone();
         let (ours, given) = port(&mut made, call);
@@ -176,7 +172,9 @@ fn line(name: &str, block: &Block, n: usize, groups: Option<f64>, runs: u64) {
 
 /// A table in the form of docs/SPEED.md.
 pub fn report(runs: u64) {
-    println!("| Mesh | Elements | Bad | Pass | Count | Port | its intake | Original | Ratio | without intake |");
+    println!(
+        "| Mesh | Elements | Bad | Pass | Count | Port | its intake | Original | Ratio | without intake |"
+    );
     println!("|---|---|---|---|---|---|---|---|---|---|");
     for n in [3, 6, 10, 13] {
         line(&format!("distorted {n}"), &distorted(n), n, None, runs);

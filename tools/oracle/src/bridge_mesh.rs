@@ -56,7 +56,8 @@ fn port_link(a: usize, b: usize, tets: &[[usize; 4]], strata: &[u64]) -> u32 {
 
 fn port_project(b: &[f64; 6], fields: &[Shape], active: &[usize], from: Point, to: Point) -> Value {
     let field_count = active.len() as u32;
-    let mut settings = Settings { cells: [1; 3], periodic: 0, passes: 0, field_count, kinds: [0; 8] };
+    let mut settings =
+        Settings { cells: [1; 3], periodic: 0, passes: 0, field_count, kinds: [0; 8] };
     let mut numbers = Numbers { bounds: *b, fields: [[0.; 4]; 8] };
     for (j, &k) in active.iter().enumerate() {
         (settings.kinds[j], numbers.fields[j]) = fields[k];

@@ -109,7 +109,11 @@ pub fn search(count: u64, seed: u64) {
             let rounds = r.pick(&[1, 2, 16]);
             let call = long_call(&block, rounds);
             let (time, answer) = port(&mut mesh(&block), &call);
-            let name = format!("{name}, {} elements, {rounds} rounds: {}", block.tets.len(), told(&answer));
+            let name = format!(
+                "{name}, {} elements, {rounds} rounds: {}",
+                block.tets.len(),
+                told(&answer)
+            );
             (time.as_secs_f64(), name)
         })
         .collect();
