@@ -42,23 +42,22 @@ ghost use Rattle.repair.specs.inside.improve.Fitting.{Fitting};
 fn rounds(
     work: &mut [u32],
     x: Index,
-    n: u32,
     o: Options,
     masks: &[u32],
     parameters: &[f64],
     points: &[f64],
 ) -> usize
-    requires { ⌜ Ready o x n (now work) (now parameters) (now points) (now masks) × (o .passes ≤ 16) ⌝ }
-    ensures { λ r. ⌜ ((m : Mesh) (s : def.State) → Reads m (x .vertices) (now (parameters .entry)) (now (points .entry)) (now (masks .entry)) → Stands o m x n (now (work .entry)) s
-        → Stands o m x n (now (work .exit)) (def.rounds o m (measure (m .points)) (o .passes) s)
+    requires { ⌜ Ready o x (x .room) (now work) (now parameters) (now points) (now masks) × (o .passes ≤ 16) ⌝ }
+    ensures { λ r. ⌜ ((m : Mesh) (s : def.State) → Reads m (x .vertices) (now (parameters .entry)) (now (points .entry)) (now (masks .entry)) → Stands o m x (x .room) (now (work .entry)) s
+        → Stands o m x (x .room) (now (work .exit)) (def.rounds o m (measure (m .points)) (o .passes) s)
         × (length (def.rounds o m (measure (m .points)) (o .passes) s .replaced) ≡ r + length (s .replaced))) ⌝ }
 {
     let limit = 0.75 * spacing(o);
     let mut replaced = 0;
     let mut left = o.passes;
     while 0 < left {
-        let count = list_edges(work, x, n, points, limit);
-        let k = round(work, x, n, count, o, masks, parameters, points);
+        let count = list_edges(work, x, points, limit);
+        let k = round(work, x, count, o, masks, parameters, points);
         if k == 0 {
             return replaced;
         }
@@ -88,8 +87,8 @@ fn improve_all(
 {
     let n = sizes.elements as u32;
     let x = layout(sizes.vertices as u32, n);
-    begin(work, x, n, o, parameters, elements);
-    let count = rounds(work, x, n, o, masks, parameters, points);
+    begin(work, x, o, parameters, elements);
+    let count = rounds(work, x, o, masks, parameters, points);
     let k = live_elements(work, x, sizes.elements);
     let a = x.area;
     finish_improve(

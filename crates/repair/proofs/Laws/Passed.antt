@@ -45,16 +45,39 @@ module _ (o : Options) (s : State) (x : Index) (many : x .vertices ≡ s .sizes 
     masks = ap (λ u. take u (s .masks)) (sym many);
   }
 
-  -- where `improve` begins
-  abbrev pub start : def.State
-  start = record { elements = tets n (s .elements); replaced = [] }
+  -- where `improve` begins, with k elements and with all
+  abbrev startOf : ℕ → def.State
+  startOf k = record { elements = tets k (s .elements); replaced = [] }
 
-  pub begun-ready : (w : List ℕ) → Stands o (meshOf s) x n w start → Ready o x n w (s .parameters) (s .points) (s .masks)
-  begun-ready w z = (meshOf s, start, reads, z)
+  abbrev pub start : def.State
+  start = startOf n
+
+  pub begun-ready : (w : List ℕ) → Stands o (meshOf s) x (x .room) w (startOf (x .room)) → Ready o x (x .room) w (s .parameters) (s .points) (s .masks)
+  begun-ready w z = (meshOf s, startOf (x .room), reads, z)
 
   -- where it ends
+  abbrev endOf : ℕ → def.State
+  endOf k = def.rounds o (meshOf s) (measure (meshOf s .points)) (o .passes) (startOf k)
+
   abbrev pub last : def.State
-  last = def.rounds o (meshOf s) (measure (meshOf s .points)) (o .passes) start
+  last = endOf n
+
+  module _ (w : List ℕ) (fits : Room x n (length w)) where
+    -- what `begin` requires
+    pub begins : 4 * n ≤ length (s .elements) → every (wellNumbered (s .sizes .vertices)) (tets n (s .elements)) ≡ true
+        → Room x (x .room) (length w) × (4 * x .room ≤ length (s .elements)) × (every (wellNumbered (x .vertices)) (tets (x .room) (s .elements)) ≡ true)
+    begins f h = (
+      subst (λ u. Room x u (length w)) (sym (fits .room)) fits,
+      subst (λ u. 4 * u ≤ length (s .elements)) (sym (fits .room)) f,
+      subst (λ u. every (wellNumbered (x .vertices)) (tets u (s .elements)) ≡ true) (sym (fits .room))
+          (subst (λ u. every (wellNumbered u) (tets n (s .elements)) ≡ true) (sym many) h),
+    )
+
+    -- what `rounds` gives for the index's room it gives for the mesh's elements
+    pub rounded : (w′ : List ℕ) (count : ℕ)
+        → Stands o (meshOf s) x (x .room) w′ (endOf (x .room)) × (length (endOf (x .room) .replaced) ≡ count + length (startOf (x .room) .replaced))
+        → Stands o (meshOf s) x n w′ last × (length (last .replaced) ≡ count + length (start .replaced))
+    rounded w′ count = subst (λ u. Stands o (meshOf s) x u w′ (endOf u) × (length (endOf u .replaced) ≡ count + length (startOf u .replaced))) (fits .room)
 
   module _ (w w′ : List ℕ) (z : Stands o (meshOf s) x n w last) (k : ℕ) (ek : k ≡ length (about.liveList x n w)) (e : w′ ≡ about.liveIn x n w) where
     r : Room x n (length w)

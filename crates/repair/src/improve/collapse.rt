@@ -86,9 +86,9 @@ fn flag(work: &mut [u32], x: Index, a: u32)
 }
 
 // a goes into b. With a itself for b it is flagged only.
-pub(crate) fn replace_one(work: &mut [u32], x: Index, n: u32, a: u32, b: u32)
-    requires { ⌜ Room x n (length (now work)) ⌝ }
-    ensures { λ _. ⌜ Goes x n a b (now (work .entry)) (now (work .exit)) ⌝ }
+pub(crate) fn replace_one(work: &mut [u32], x: Index, a: u32, b: u32)
+    requires { ⌜ Room x (x .room) (length (now work)) ⌝ }
+    ensures { λ _. ⌜ Goes x (x .room) a b (now (work .entry)) (now (work .exit)) ⌝ }
 {
     if a == b {
         flag(work, x, a);
@@ -101,9 +101,9 @@ pub(crate) fn replace_one(work: &mut [u32], x: Index, n: u32, a: u32, b: u32)
 }
 
 // The first vertex of each of the k pairs in the pairs' area goes into its second, from the last pair to the first.
-pub(crate) fn replace_all(work: &mut [u32], x: Index, n: u32, k: usize)
-    requires { ⌜ Room x n (length (now work)) × (k ≤ x .vertices) ⌝ }
-    ensures { λ _. ⌜ AllGo x n k (now (work .entry)) (now (work .exit)) ⌝ }
+pub(crate) fn replace_all(work: &mut [u32], x: Index, k: usize)
+    requires { ⌜ Room x (x .room) (length (now work)) × (k ≤ x .vertices) ⌝ }
+    ensures { λ _. ⌜ AllGo x (x .room) k (now (work .entry)) (now (work .exit)) ⌝ }
 {
     let p = pairs_at(x);
     let mut i = k;
@@ -111,6 +111,6 @@ pub(crate) fn replace_all(work: &mut [u32], x: Index, n: u32, k: usize)
         i -= 1;
         let a = word(work, p + 2 * i);
         let b = word(work, p + 2 * i + 1);
-        replace_one(work, x, n, a, b);
+        replace_one(work, x, a, b);
     }
 }

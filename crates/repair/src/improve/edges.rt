@@ -33,15 +33,15 @@ fn copy_down(work: &mut [u32], i: usize, d: usize, k: usize)
 }
 
 // Lists the edges of bad elements shorter than `limit`, by length then numbers, in the edges' area, and gives how many.
-pub(crate) fn list_edges(work: &mut [u32], x: Index, n: u32, points: &[f64], limit: f64) -> usize
-    requires { ⌜ Room x n (length (now work)) ⌝ }
-    requires { ⌜ ((o : Options) × (m : Mesh) × (s : State) × Stands o m x n (now work) s) ⌝ }
-    ensures { λ r. ⌜ (r ≤ 6 * n) × ((o : Options) (m : Mesh) (s : State) (h : Float) → limit ≡ threeQuarters *₆₄ h → m .points ≡ pointsOf (x .vertices) (now (points .entry)) → Stands o m x n (now (work .entry)) s
+pub(crate) fn list_edges(work: &mut [u32], x: Index, points: &[f64], limit: f64) -> usize
+    requires { ⌜ Room x (x .room) (length (now work)) ⌝ }
+    requires { ⌜ ((o : Options) × (m : Mesh) × (s : State) × Stands o m x (x .room) (now work) s) ⌝ }
+    ensures { λ r. ⌜ (r ≤ 6 * x .room) × ((o : Options) (m : Mesh) (s : State) (h : Float) → limit ≡ threeQuarters *₆₄ h → m .points ≡ pointsOf (x .vertices) (now (points .entry)) → Stands o m x (x .room) (now (work .entry)) s
         → edgesIn x r (now (work .exit)) ≡ listedEdges (measure (m .points)) h (s .elements)) ⌝ }
     ensures { λ _. ⌜ Same (now (work .entry)) (now (work .exit)) (edgesAt x) (length (now (work .entry))) ⌝ }
 {
     let a = x.area;
-    let k = live_elements(work, x, n as usize);
+    let k = live_elements(work, x, x.room as usize);
     let e = a + 52 * k;
     let r = short_edges_in(&mut work[a..e], k, points, x.vertices as usize, limit);
     copy_down(work, a + 4 * k, edges_at(x), 4 * r);

@@ -101,9 +101,9 @@ fn gains_at(work: &[u32], x: Index, k: usize, p: usize, n: usize, points: &[f64]
 }
 
 // Whether the collapse of the k pairs in the pairs' area gains: no element worse than allowed, and fewer bad ones or a higher lowest score.
-pub(crate) fn gains(work: &mut [u32], x: Index, n: u32, k: usize, points: &[f64]) -> bool
-    requires { ⌜ Room x n (length (now work)) × Pairs (x .vertices) (pairsIn x k (now work)) × ((o : Options) × (m : Mesh) × (s : State) × Stands o m x n (now work) s) ⌝ }
-    ensures { λ r. ⌜ ((o : Options) (m : Mesh) (s : State) → m .points ≡ pointsOf (x .vertices) (now (points .entry)) → Stands o m x n (now (work .entry)) s
+pub(crate) fn gains(work: &mut [u32], x: Index, k: usize, points: &[f64]) -> bool
+    requires { ⌜ Room x (x .room) (length (now work)) × Pairs (x .vertices) (pairsIn x k (now work)) × ((o : Options) × (m : Mesh) × (s : State) × Stands o m x (x .room) (now work) s) ⌝ }
+    ensures { λ r. ⌜ ((o : Options) (m : Mesh) (s : State) → m .points ≡ pointsOf (x .vertices) (now (points .entry)) → Stands o m x (x .room) (now (work .entry)) s
         → r ≡ gains (measure (m .points)) (about (pairsIn x k (now (work .entry))) (s .elements)) (collapsed (pairsIn x k (now (work .entry))) (about (pairsIn x k (now (work .entry))) (s .elements)))) ⌝ }
     ensures { λ _. ⌜ Same (now (work .entry)) (now (work .exit)) (x .area) (length (now (work .entry))) ⌝ }
 {

@@ -88,15 +88,14 @@ fn elements_link(
 pub(crate) fn pair_ok(
     work: &mut [u32],
     x: Index,
-    n: u32,
     p: usize,
     masks: &[u32],
     parameters: &[f64],
     bounds: Bounds,
 ) -> bool
-    requires { ⌜ Room x n (length (now work)) × (p < x .vertices) × (wordAt (now work) (pairsAt x + 2 * p) < x .vertices) × (wordAt (now work) (pairsAt x + 2 * p + 1) < x .vertices) ⌝ }
-    requires { ⌜ ((o : Options) × (m : Mesh) × (s : State) × Stands o m x n (now work) s) ⌝ }
-    ensures { λ r. ⌜ ((o : Options) (m : Mesh) (s : State) → o .bounds ≡ bounds → m .masks ≡ take (x .vertices) (now (masks .entry)) → m .parameters ≡ pointsOf (x .vertices) (now (parameters .entry)) → Stands o m x n (now (work .entry)) s
+    requires { ⌜ Room x (x .room) (length (now work)) × (p < x .vertices) × (wordAt (now work) (pairsAt x + 2 * p) < x .vertices) × (wordAt (now work) (pairsAt x + 2 * p + 1) < x .vertices) ⌝ }
+    requires { ⌜ ((o : Options) × (m : Mesh) × (s : State) × Stands o m x (x .room) (now work) s) ⌝ }
+    ensures { λ r. ⌜ ((o : Options) (m : Mesh) (s : State) → o .bounds ≡ bounds → m .masks ≡ take (x .vertices) (now (masks .entry)) → m .parameters ≡ pointsOf (x .vertices) (now (parameters .entry)) → Stands o m x (x .room) (now (work .entry)) s
         → r ≡ pairOk o m (s .elements) (pair (wordAt (now (work .entry)) (pairsAt x + 2 * p)) (wordAt (now (work .entry)) (pairsAt x + 2 * p + 1)))) ⌝ }
     ensures { λ _. ⌜ Same (now (work .entry)) (now (work .exit)) (x .area) (length (now (work .entry))) ⌝ }
 {

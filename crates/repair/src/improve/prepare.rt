@@ -17,23 +17,16 @@ ghost use Rattle.repair.specs.Mesh.{Mesh};
 ghost use Rattle.repair.specs.inside.Layout.{Room, Stands};
 
 // Lays the groups, the slots and their index into the work slice.
-pub(crate) fn begin(
-    work: &mut [u32],
-    x: Index,
-    n: u32,
-    o: Options,
-    parameters: &[f64],
-    elements: &[u32],
-)
-    requires { ⌜ Room x n (length (now work)) ⌝ }
+pub(crate) fn begin(work: &mut [u32], x: Index, o: Options, parameters: &[f64], elements: &[u32])
+    requires { ⌜ Room x (x .room) (length (now work)) ⌝ }
     requires { ⌜ now work ≡ zeroWords (length (now work)) ⌝ }
-    requires { ⌜ (4 * n ≤ length (now elements)) × (every (wellNumbered (x .vertices)) (tets n (now elements)) ≡ true) ⌝ }
-    ensures { λ _. ⌜ ((m : Mesh) → m .parameters ≡ pointsOf (x .vertices) (now (parameters .entry)) → Stands o m x n (now (work .exit)) (record { elements = tets n (now (elements .entry)); replaced = [] })) ⌝ }
+    requires { ⌜ (4 * x .room ≤ length (now elements)) × (every (wellNumbered (x .vertices)) (tets (x .room) (now elements)) ≡ true) ⌝ }
+    ensures { λ _. ⌜ ((m : Mesh) → m .parameters ≡ pointsOf (x .vertices) (now (parameters .entry)) → Stands o m x (x .room) (now (work .exit)) (record { elements = tets (x .room) (now (elements .entry)); replaced = [] })) ⌝ }
 {
     let nv = x.vertices as usize;
     let e = 14 * nv;
     let k = x.slots;
     group_in(parameters, nv, o, &mut work[0..e]);
-    copy_into(elements, 0, work, k, 4 * (n as usize));
-    build(work, x, n);
+    copy_into(elements, 0, work, k, 4 * (x.room as usize));
+    build(work, x, x.room);
 }

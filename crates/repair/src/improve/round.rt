@@ -48,7 +48,6 @@ fn way(e: Pair, d: u32) -> Pair
 fn may_pair(
     work: &mut [u32],
     x: Index,
-    n: u32,
     o: Options,
     masks: &[u32],
     parameters: &[f64],
@@ -56,9 +55,9 @@ fn may_pair(
     a: u32,
     b: u32,
 ) -> usize
-    requires { ⌜ Ready o x n (now work) (now parameters) (now points) (now masks) × (a < x .vertices) × (b < x .vertices) ⌝ }
-    ensures { λ r. ⌜ ((m : Mesh) (s : State) → Reads m (x .vertices) (now (parameters .entry)) (now (points .entry)) (now (masks .entry)) → Stands o m x n (now (work .entry)) s
-        → MayPair o m x n s a b (now (work .entry)) (now (work .exit)) r) ⌝ }
+    requires { ⌜ Ready o x (x .room) (now work) (now parameters) (now points) (now masks) × (a < x .vertices) × (b < x .vertices) ⌝ }
+    ensures { λ r. ⌜ ((m : Mesh) (s : State) → Reads m (x .vertices) (now (parameters .entry)) (now (points .entry)) (now (masks .entry)) → Stands o m x (x .room) (now (work .entry)) s
+        → MayPair o m x (x .room) s a b (now (work .entry)) (now (work .exit)) r) ⌝ }
 {
     if !stratum_rule(masks, parameters, x.vertices as usize, o.bounds, a, b) {
         return 0;
@@ -70,16 +69,15 @@ fn may_pair(
 pub(crate) fn round(
     work: &mut [u32],
     x: Index,
-    n: u32,
     count: usize,
     o: Options,
     masks: &[u32],
     parameters: &[f64],
     points: &[f64],
 ) -> usize
-    requires { ⌜ Ready o x n (now work) (now parameters) (now points) (now masks) × (count ≤ 6 * n) × (every (below (x .vertices)) (edgesIn x count (now work)) ≡ true) ⌝ }
-    ensures { λ r. ⌜ ((m : Mesh) (s : State) → Reads m (x .vertices) (now (parameters .entry)) (now (points .entry)) (now (masks .entry)) → Stands o m x n (now (work .entry)) s
-        → Stands o m x n (now (work .exit)) (tryEdges o m (measure (m .points)) s (edgesIn x count (now (work .entry))))
+    requires { ⌜ Ready o x (x .room) (now work) (now parameters) (now points) (now masks) × (count ≤ 6 * x .room) × (every (below (x .vertices)) (edgesIn x count (now work)) ≡ true) ⌝ }
+    ensures { λ r. ⌜ ((m : Mesh) (s : State) → Reads m (x .vertices) (now (parameters .entry)) (now (points .entry)) (now (masks .entry)) → Stands o m x (x .room) (now (work .entry)) s
+        → Stands o m x (x .room) (now (work .exit)) (tryEdges o m (measure (m .points)) s (edgesIn x count (now (work .entry))))
         × (length (tryEdges o m (measure (m .points)) s (edgesIn x count (now (work .entry))) .replaced) ≡ r + length (s .replaced))) ⌝ }
     ensures { λ r. ⌜ r ≤ 4096 * count ⌝ }
 {
@@ -98,21 +96,21 @@ pub(crate) fn round(
         'directions: while d < 2 {
             d += 1;
             let t = way(e, d);
-            let k = may_pair(work, x, n, o, masks, parameters, points, t.a, t.b);
+            let k = may_pair(work, x, o, masks, parameters, points, t.a, t.b);
             if k == 0 {
                 continue 'directions;
             }
             let mut p = 0;
             while p < k {
-                if !pair_ok(work, x, n, p, masks, parameters, o.bounds) {
+                if !pair_ok(work, x, p, masks, parameters, o.bounds) {
                     continue 'directions;
                 }
                 p += 1;
             }
-            if !gains(work, x, n, k, points) {
+            if !gains(work, x, k, points) {
                 continue 'directions;
             }
-            replace_all(work, x, n, k);
+            replace_all(work, x, k);
             replaced += k;
             break 'directions;
         }

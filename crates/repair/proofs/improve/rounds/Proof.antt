@@ -14,11 +14,11 @@ use Rattle.repair.proofs.improve.rounds.Statement.{statement}
 use Rattle.repair.proofs.improve.rounds.Tie as tie
 
 abbrev Inv-loop : tie.InvT-loop
-Inv-loop work₀ x n o masks parameters points limit replaced₀ left₀ work replaced left =
-    AtRound o x n work₀ parameters points masks work replaced left × (limit ≡ threeQuarters *₆₄ spacing o) × (length work ≡ length work₀)
+Inv-loop work₀ x o masks parameters points limit replaced₀ left₀ work replaced left =
+    AtRound o x (x .room) work₀ parameters points masks work replaced left × (limit ≡ threeQuarters *₆₄ spacing o) × (length work ≡ length work₀)
 
 abbrev μ-loop : tie.MeasureT-loop
-μ-loop work₀ x n o masks parameters points limit replaced₀ left₀ work replaced left = left
+μ-loop work₀ x o masks parameters points limit replaced₀ left₀ work replaced left = left
 
 spacing-requires : tie.Need-spacing-requires Inv-loop μ-loop
 spacing-requires c κs = search needs

@@ -31,13 +31,13 @@ word-requires-2 : tie.Need-word-requires-2
 word-requires-2 c κs = search needs
 
 stratum-rule-requires : tie.Need-stratum-rule-requires
-stratum-rule-requires c κs = both-below (c .before .before .before .before .before .before .before .before .before .args .x) (c .before .before .before .before .before .before .before .before .before .args .n) (c .before .before .before .before .before .before .before .before .before .args .p) (c .before .before .before .before .before .before .before .before .before .args .work .now) (c .before .before .before .before .before .before .before .before .before .pre .0) (c .before .before .before .before .before .before .before .before .before .pre .1) _ _ _ (c .before .before .before .before .pairs-at .ensures) (c .before .before .word .ensures) (c .word2 .ensures)
+stratum-rule-requires c κs = both-below (c .before .before .before .before .before .before .before .before .before .args .x) (c .before .before .before .before .before .before .before .before .before .args .x .room) (c .before .before .before .before .before .before .before .before .before .args .p) (c .before .before .before .before .before .before .before .before .before .args .work .now) (c .before .before .before .before .before .before .before .before .before .pre .0) (c .before .before .before .before .before .before .before .before .before .pre .1) _ _ _ (c .before .before .before .before .pairs-at .ensures) (c .before .before .word .ensures) (c .word2 .ensures)
 
 same-length : tie.Need-same-length
 same-length c = search needs
 
 returns : tie.Need-returns
-returns c = (λ o m s hb hm hp z. rule-fails (c .before .before .before .before .before .before .before .before .before .before .before .args .x) (c .before .before .before .before .before .before .before .before .before .before .before .args .n) (c .before .before .before .before .before .before .before .before .before .before .before .args .p) (c .before .before .before .before .before .before .before .before .before .before .before .args .work .now) (c .before .before .before .before .before .before .before .before .before .before .before .pre .0) (c .before .before .before .before .before .before .before .before .before .before .before .pre .1) _ _ _ (c .before .before .before .before .before .before .pairs-at .ensures) (c .before .before .before .before .word .ensures) (c .before .before .word2 .ensures) o m s (sym (c .before .stratum-rule .ensures o m hb hm hp) ∙ not-true _ (c .if1 .taken)), same-refl (c .before .before .before .before .before .before .before .before .before .before .before .args .work .now) (c .before .before .before .before .before .before .before .before .before .before .before .args .x .area) (length (c .before .before .before .before .before .before .before .before .before .before .before .args .work .now)))
+returns c = (λ o m s hb hm hp z. rule-fails (c .before .before .before .before .before .before .before .before .before .before .before .args .x) (c .before .before .before .before .before .before .before .before .before .before .before .args .x .room) (c .before .before .before .before .before .before .before .before .before .before .before .args .p) (c .before .before .before .before .before .before .before .before .before .before .before .args .work .now) (c .before .before .before .before .before .before .before .before .before .before .before .pre .0) (c .before .before .before .before .before .before .before .before .before .before .before .pre .1) _ _ _ (c .before .before .before .before .before .before .pairs-at .ensures) (c .before .before .before .before .word .ensures) (c .before .before .word2 .ensures) o m s (sym (c .before .stratum-rule .ensures o m hb hm hp) ∙ not-true _ (c .if1 .taken)), same-refl (c .before .before .before .before .before .before .before .before .before .before .before .args .work .now) (c .before .before .before .before .before .before .before .before .before .before .before .args .x .area) (length (c .before .before .before .before .before .before .before .before .before .before .before .args .work .now)))
 
 star-requires : tie.Need-star-requires
 star-requires c κs = search needs
@@ -46,10 +46,10 @@ elements-at-requires : tie.Need-elements-at-requires
 elements-at-requires c κs = search needs
 
 add-elements-link : tie.Need-add-elements-link
-add-elements-link c = let h = ready (c .before .before .before .before .before .before .before .before .before .before .before .before .before .before .before .before .before .before .before .before .before .args .x) (c .before .before .before .before .before .before .before .before .before .before .before .before .before .before .before .before .before .before .before .before .before .args .n) (c .before .before .before .before .before .before .before .before .before .before .before .before .before .before .before .before .before .before .before .before .before .args .p) (c .before .before .before .before .before .before .before .before .before .before .before .before .before .before .before .before .before .before .before .before .before .args .work .now) (c .before .before .before .before .before .before .before .before .before .before .before .before .before .before .before .before .before .before .before .before .before .pre .0) (c .before .before .before .before .before .before .before .before .before .before .before .before .before .before .before .before .before .before .before .before .before .pre .1) _ _ _ (c .before .before .before .before .before .before .before .before .before .before .before .before .before .before .before .before .pairs-at .ensures) (c .before .before .before .before .before .before .before .before .before .before .before .before .before .before .word .ensures) (c .before .before .before .before .before .before .before .before .before .before .before .before .word2 .ensures) _ _ _ (c .before .before .before .before .before .before .before .before .star .ensures .0) (c .before .before .before .before .before .before .before .before .star .ensures .1) (c .before .before .before .before .elements-at .ensures) .0 in omega (arith, h)
+add-elements-link c = let h = ready (c .before .before .before .before .before .before .before .before .before .before .before .before .before .before .before .before .before .before .before .before .before .args .x) (c .before .before .before .before .before .before .before .before .before .before .before .before .before .before .before .before .before .before .before .before .before .args .x .room) (c .before .before .before .before .before .before .before .before .before .before .before .before .before .before .before .before .before .before .before .before .before .args .p) (c .before .before .before .before .before .before .before .before .before .before .before .before .before .before .before .before .before .before .before .before .before .args .work .now) (c .before .before .before .before .before .before .before .before .before .before .before .before .before .before .before .before .before .before .before .before .before .pre .0) (c .before .before .before .before .before .before .before .before .before .before .before .before .before .before .before .before .before .before .before .before .before .pre .1) _ _ _ (c .before .before .before .before .before .before .before .before .before .before .before .before .before .before .before .before .pairs-at .ensures) (c .before .before .before .before .before .before .before .before .before .before .before .before .before .before .word .ensures) (c .before .before .before .before .before .before .before .before .before .before .before .before .word2 .ensures) _ _ _ (c .before .before .before .before .before .before .before .before .star .ensures .0) (c .before .before .before .before .before .before .before .before .star .ensures .1) (c .before .before .before .before .elements-at .ensures) .0 in omega (arith, h)
 
 elements-link-requires : tie.Need-elements-link-requires
-elements-link-requires c κs = ready (c .before .before .before .before .before .before .before .before .before .before .before .before .before .before .before .before .before .before .before .before .before .args .x) (c .before .before .before .before .before .before .before .before .before .before .before .before .before .before .before .before .before .before .before .before .before .args .n) (c .before .before .before .before .before .before .before .before .before .before .before .before .before .before .before .before .before .before .before .before .before .args .p) (c .before .before .before .before .before .before .before .before .before .before .before .before .before .before .before .before .before .before .before .before .before .args .work .now) (c .before .before .before .before .before .before .before .before .before .before .before .before .before .before .before .before .before .before .before .before .before .pre .0) (c .before .before .before .before .before .before .before .before .before .before .before .before .before .before .before .before .before .before .before .before .before .pre .1) _ _ _ (c .before .before .before .before .before .before .before .before .before .before .before .before .before .before .before .before .pairs-at .ensures) (c .before .before .before .before .before .before .before .before .before .before .before .before .before .before .word .ensures) (c .before .before .before .before .before .before .before .before .before .before .before .before .word2 .ensures) _ _ _ (c .before .before .before .before .before .before .before .before .star .ensures .0) (c .before .before .before .before .before .before .before .before .star .ensures .1) (c .before .before .before .before .elements-at .ensures)
+elements-link-requires c κs = ready (c .before .before .before .before .before .before .before .before .before .before .before .before .before .before .before .before .before .before .before .before .before .args .x) (c .before .before .before .before .before .before .before .before .before .before .before .before .before .before .before .before .before .before .before .before .before .args .x .room) (c .before .before .before .before .before .before .before .before .before .before .before .before .before .before .before .before .before .before .before .before .before .args .p) (c .before .before .before .before .before .before .before .before .before .before .before .before .before .before .before .before .before .before .before .before .before .args .work .now) (c .before .before .before .before .before .before .before .before .before .before .before .before .before .before .before .before .before .before .before .before .before .pre .0) (c .before .before .before .before .before .before .before .before .before .before .before .before .before .before .before .before .before .before .before .before .before .pre .1) _ _ _ (c .before .before .before .before .before .before .before .before .before .before .before .before .before .before .before .before .pairs-at .ensures) (c .before .before .before .before .before .before .before .before .before .before .before .before .before .before .word .ensures) (c .before .before .before .before .before .before .before .before .before .before .before .before .word2 .ensures) _ _ _ (c .before .before .before .before .before .before .before .before .star .ensures .0) (c .before .before .before .before .before .before .before .before .star .ensures .1) (c .before .before .before .before .elements-at .ensures)
 
 same-length-2 : tie.Need-same-length-2
 same-length-2 c = c .before .before .elements-link .kept .0 ∙ c .before .before .before .before .before .before .before .elements-at .kept .0 ∙ c .before .before .before .before .before .before .before .before .before .before .before .star .kept .0
@@ -58,8 +58,8 @@ returns-2 : tie.Need-returns-2
 returns-2 c = (
   (λ o m s hb hm hp z.
       c .before .before .elements-link .ensures .0
-      ∙ decided (c .before .before .before .before .before .before .before .before .before .before .before .before .before .before .before .before .before .before .before .before .before .before .before .before .args .x) (c .before .before .before .before .before .before .before .before .before .before .before .before .before .before .before .before .before .before .before .before .before .before .before .before .args .n) (c .before .before .before .before .before .before .before .before .before .before .before .before .before .before .before .before .before .before .before .before .before .before .before .before .args .p) (c .before .before .before .before .before .before .before .before .before .before .before .before .before .before .before .before .before .before .before .before .before .before .before .before .args .work .now) (c .before .before .before .before .before .before .before .before .before .before .before .before .before .before .before .before .before .before .before .before .before .before .before .before .pre .0) (c .before .before .before .before .before .before .before .before .before .before .before .before .before .before .before .before .before .before .before .before .before .before .before .before .pre .1) _ _ _ (c .before .before .before .before .before .before .before .before .before .before .before .before .before .before .before .before .before .before .before .pairs-at .ensures) (c .before .before .before .before .before .before .before .before .before .before .before .before .before .before .before .before .before .word .ensures) (c .before .before .before .before .before .before .before .before .before .before .before .before .before .before .before .word2 .ensures) _ _ _ (c .before .before .before .before .before .before .before .before .before .before .before .star .ensures .0) (c .before .before .before .before .before .before .before .before .before .before .before .star .ensures .1) (c .before .before .before .before .before .before .before .elements-at .ensures) o m s _ _ _ hb hm hp (sym (c .before .before .before .before .before .before .before .before .before .before .before .before .before .before .stratum-rule .ensures o m hb hm hp) ∙ not-false _ (c .before .before .before .before .before .before .before .before .before .before .before .before .before .if1 .left)) z),
-  left (c .before .before .before .before .before .before .before .before .before .before .before .before .before .before .before .before .before .before .before .before .before .before .before .before .args .x) (c .before .before .before .before .before .before .before .before .before .before .before .before .before .before .before .before .before .before .before .before .before .before .before .before .args .n) (c .before .before .before .before .before .before .before .before .before .before .before .before .before .before .before .before .before .before .before .before .before .before .before .before .args .p) (c .before .before .before .before .before .before .before .before .before .before .before .before .before .before .before .before .before .before .before .before .before .before .before .before .args .work .now) (c .before .before .before .before .before .before .before .before .before .before .before .before .before .before .before .before .before .before .before .before .before .before .before .before .pre .0) (c .before .before .before .before .before .before .before .before .before .before .before .before .before .before .before .before .before .before .before .before .before .before .before .before .pre .1) _ _ _ (c .before .before .before .before .before .before .before .before .before .before .before .before .before .before .before .before .before .before .before .pairs-at .ensures) (c .before .before .before .before .before .before .before .before .before .before .before .before .before .before .before .before .before .word .ensures) (c .before .before .before .before .before .before .before .before .before .before .before .before .before .before .before .word2 .ensures) _ _ _ (c .before .before .before .before .before .before .before .before .before .before .before .star .ensures .0) (c .before .before .before .before .before .before .before .before .before .before .before .star .ensures .1) (c .before .before .before .before .before .before .before .elements-at .ensures) _ (c .before .before .elements-link .ensures .1),
+      ∙ decided (c .before .before .before .before .before .before .before .before .before .before .before .before .before .before .before .before .before .before .before .before .before .before .before .before .args .x) (c .before .before .before .before .before .before .before .before .before .before .before .before .before .before .before .before .before .before .before .before .before .before .before .before .args .x .room) (c .before .before .before .before .before .before .before .before .before .before .before .before .before .before .before .before .before .before .before .before .before .before .before .before .args .p) (c .before .before .before .before .before .before .before .before .before .before .before .before .before .before .before .before .before .before .before .before .before .before .before .before .args .work .now) (c .before .before .before .before .before .before .before .before .before .before .before .before .before .before .before .before .before .before .before .before .before .before .before .before .pre .0) (c .before .before .before .before .before .before .before .before .before .before .before .before .before .before .before .before .before .before .before .before .before .before .before .before .pre .1) _ _ _ (c .before .before .before .before .before .before .before .before .before .before .before .before .before .before .before .before .before .before .before .pairs-at .ensures) (c .before .before .before .before .before .before .before .before .before .before .before .before .before .before .before .before .before .word .ensures) (c .before .before .before .before .before .before .before .before .before .before .before .before .before .before .before .word2 .ensures) _ _ _ (c .before .before .before .before .before .before .before .before .before .before .before .star .ensures .0) (c .before .before .before .before .before .before .before .before .before .before .before .star .ensures .1) (c .before .before .before .before .before .before .before .elements-at .ensures) o m s _ _ _ hb hm hp (sym (c .before .before .before .before .before .before .before .before .before .before .before .before .before .before .stratum-rule .ensures o m hb hm hp) ∙ not-false _ (c .before .before .before .before .before .before .before .before .before .before .before .before .before .if1 .left)) z),
+  left (c .before .before .before .before .before .before .before .before .before .before .before .before .before .before .before .before .before .before .before .before .before .before .before .before .args .x) (c .before .before .before .before .before .before .before .before .before .before .before .before .before .before .before .before .before .before .before .before .before .before .before .before .args .x .room) (c .before .before .before .before .before .before .before .before .before .before .before .before .before .before .before .before .before .before .before .before .before .before .before .before .args .p) (c .before .before .before .before .before .before .before .before .before .before .before .before .before .before .before .before .before .before .before .before .before .before .before .before .args .work .now) (c .before .before .before .before .before .before .before .before .before .before .before .before .before .before .before .before .before .before .before .before .before .before .before .before .pre .0) (c .before .before .before .before .before .before .before .before .before .before .before .before .before .before .before .before .before .before .before .before .before .before .before .before .pre .1) _ _ _ (c .before .before .before .before .before .before .before .before .before .before .before .before .before .before .before .before .before .before .before .pairs-at .ensures) (c .before .before .before .before .before .before .before .before .before .before .before .before .before .before .before .before .before .word .ensures) (c .before .before .before .before .before .before .before .before .before .before .before .before .before .before .before .word2 .ensures) _ _ _ (c .before .before .before .before .before .before .before .before .before .before .before .star .ensures .0) (c .before .before .before .before .before .before .before .before .before .before .before .star .ensures .1) (c .before .before .before .before .before .before .before .elements-at .ensures) _ (c .before .before .elements-link .ensures .1),
 )
 
 pub pair-ok-spec : {M : Type 1} → statement M

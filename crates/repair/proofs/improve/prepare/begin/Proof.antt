@@ -25,6 +25,9 @@ part-group-in-end c = let r = c .before .before .before .before .pre .0 in let a
 group-in-requires : tie.Need-group-in-requires
 group-in-requires c κs = search needs
 
+cast-copy-into : tie.Need-cast-copy-into
+cast-copy-into c = search needs
+
 mul-copy-into : tie.Need-mul-copy-into
 mul-copy-into c = search needs
 
@@ -38,7 +41,7 @@ same-length : tie.Need-same-length
 same-length c = search needs
 
 returns : tie.Need-returns
-returns c = λ m e. begun (c .before .before .before .before .before .before .before .before .before .before .before .before .before .before .before .before .args .o) m (c .before .before .before .before .before .before .before .before .before .before .before .before .before .before .before .before .args .x) (c .before .before .before .before .before .before .before .before .before .before .before .before .before .before .before .before .args .n) (pointsOf (c .before .before .before .before .before .before .before .before .before .before .before .before .before .before .before .before .args .x .vertices) (c .before .before .before .before .before .before .before .before .before .before .before .before .before .before .before .before .args .parameters .now)) (c .before .before .before .before .before .before .before .before .before .before .before .before .before .before .before .before .args .elements .now) (c .before .before .before .before .before .before .before .before .before .before .before .before .before .before .before .before .args .work .now) (c .before .before .before .before .before .before .before .before .before .before .group-in .last .1 .1 .1 .0) (c .before .before .before .before .before .before .copy-into .last .1 .1 .0) (c .before .before .build .last .0) (c .before .before .before .before .before .before .before .before .before .before .before .before .before .before .before .before .pre .0) (c .before .before .before .before .before .before .before .before .before .before .before .before .before .before .before .before .pre .1 .0) (c .before .before .before .before .before .before .before .before .before .before .before .before .before .before .before .before .pre .1 .1 .0) (c .before .before .before .before .before .before .before .before .before .before .before .before .before .before .before .before .pre .1 .1 .1) (length-points (c .before .before .before .before .before .before .before .before .before .before .before .before .before .before .before .before .args .x .vertices) (c .before .before .before .before .before .before .before .before .before .before .before .before .before .before .before .before .args .parameters .now)) e (c .before .before .before .before .before .before .before .before .before .before .group-in .ensures) (c .before .before .before .before .before .before .copy-into .ensures) (c .before .before .build .ensures)
+returns c = λ m e. begun (c .before .before .before .before .before .before .before .before .before .before .before .before .before .before .before .before .before .args .o) m (c .before .before .before .before .before .before .before .before .before .before .before .before .before .before .before .before .before .args .x) (c .before .before .before .before .before .before .before .before .before .before .before .before .before .before .before .before .before .args .x .room) (pointsOf (c .before .before .before .before .before .before .before .before .before .before .before .before .before .before .before .before .before .args .x .vertices) (c .before .before .before .before .before .before .before .before .before .before .before .before .before .before .before .before .before .args .parameters .now)) (c .before .before .before .before .before .before .before .before .before .before .before .before .before .before .before .before .before .args .elements .now) (c .before .before .before .before .before .before .before .before .before .before .before .before .before .before .before .before .before .args .work .now) (c .before .before .before .before .before .before .before .before .before .before .before .group-in .last .1 .1 .1 .0) (c .before .before .before .before .before .before .copy-into .last .1 .1 .0) (c .before .before .build .last .0) (c .before .before .before .before .before .before .before .before .before .before .before .before .before .before .before .before .before .pre .0) (c .before .before .before .before .before .before .before .before .before .before .before .before .before .before .before .before .before .pre .1 .0) (c .before .before .before .before .before .before .before .before .before .before .before .before .before .before .before .before .before .pre .1 .1 .0) (c .before .before .before .before .before .before .before .before .before .before .before .before .before .before .before .before .before .pre .1 .1 .1) (length-points (c .before .before .before .before .before .before .before .before .before .before .before .before .before .before .before .before .before .args .x .vertices) (c .before .before .before .before .before .before .before .before .before .before .before .before .before .before .before .before .before .args .parameters .now)) e (c .before .before .before .before .before .before .before .before .before .before .before .group-in .ensures) (c .before .before .before .before .before .before .copy-into .ensures) (c .before .before .build .ensures)
 
 pub begin-spec : {M : Type 1} → statement M
 begin-spec =
@@ -50,6 +53,7 @@ begin-spec =
     part-group-in-start
     part-group-in-end
     group-in-requires
+    cast-copy-into
     mul-copy-into
     copy-into-requires
     build-requires
