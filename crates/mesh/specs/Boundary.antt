@@ -1,6 +1,7 @@
 -- The boundary of a list of elements (document 01, "Element and surface", "Where each number is given"; `boundary` of lib.rs).
 -- It "sorts the faces by key, keeps single ones and refuses at the first bad key". Definitions only.
 use Prim.Native.Nat.{ℕ}
+use mathlib.Core.Logic.{_≢_}
 use mathlib.Core.Bool.{Bool, true, false, cond, _&&_}
 use mathlib.Core.List.{List, [], _∷_, _++_, map}
 use lib.Dec.{ltb, eqb}
@@ -37,6 +38,11 @@ keyNumber [] = 0
 keyNumber (f ∷ []) = 0
 keyNumber (f ∷ g ∷ []) = cond (eqb (parityOf f) (parityOf g)) 17 0
 keyNumber (f ∷ g ∷ h ∷ fs) = 16
+
+-- the faces of one key where it is not bad: one, or two with opposite parity
+pub data OneOrTwo : List Triple → Type 0 where
+  one : (f : Triple) → OneOrTwo (f ∷ [])
+  two : (f g : Triple) → parityOf f ≢ parityOf g → OneOrTwo (f ∷ g ∷ [])
 
 -- the first number above 0 that the keys give, in their order, and 0 where none does
 unfoldable pub firstNumber : List Triple → List Triple → ℕ

@@ -1,7 +1,6 @@
 -- Wholeness: demand 3 of the tender as one statement about every list of calls, in the words of the tender and of document 01, "Runs of
 -- passes". `Wholeness` at the end is the statement; what stands above it are its parts. Definitions only.
 use mathlib.Core.Path.{_≡_}
-use mathlib.Core.Logic.{_≢_}
 use mathlib.Core.Bool.{true}
 use mathlib.Core.List.{List, [], _∷_, map, List·Memᴰ}
 use Prim.Native.Nat.{ℕ, _+_, _*_, _^_, _≤_, _<_}
@@ -14,7 +13,7 @@ use Rattle.mesh.specs.declared.element.Triple.{Triple}
 use Rattle.mesh.specs.declared.element.Tet.{Tet}
 use Rattle.mesh.specs.Complex.{alternating}
 use Rattle.mesh.specs.Element.{verticesOf, keyOf, parityOf}
-use Rattle.mesh.specs.Boundary.{allFaces, withKey}
+use Rattle.mesh.specs.Boundary.{allFaces, withKey, OneOrTwo}
 use Rattle.mesh.specs.Group.{rankOf}
 use Rattle.mesh.specs.declared.intake.Lengths.{Lengths}
 use Rattle.mesh.specs.Tests.{every}
@@ -58,11 +57,6 @@ ApartAlong (c ∷ cs) s = (c .pass ≡ Pass.improve → numberOf (step c s .0) �
 -- "vertices minus edges plus triangles minus elements, each counted once and only where an element uses it"
 abbrev pub alternatingOf : State → ℤ
 alternatingOf s = alternating (s .sizes .vertices) (map verticesOf (meshOf s .elements))
-
--- the faces of one key: one, or two with opposite parity
-pub data OneOrTwo : List Triple → Type 0 where
-  one : (f : Triple) → OneOrTwo (f ∷ [])
-  two : (f g : Triple) → parityOf f ≢ parityOf g → OneOrTwo (f ∷ g ∷ [])
 
 -- finite, not negative and a whole number of units of 2 ^ -1074, as `unitsOf` takes it
 abbrev pub Exact : Float → Type 0

@@ -20,11 +20,6 @@ use Rattle.mesh.specs.Surface.{answer, surfaceWords, answerOf}
 
 -- ---- the faces of one key
 
--- one face, or two of opposite parity
-pub data OneOrTwo : List Triple → Type 0 where
-  one : (f : Triple) → OneOrTwo (f ∷ [])
-  two : (f g : Triple) → (parityOf f ≡ parityOf g → ⊥) → OneOrTwo (f ∷ g ∷ [])
-
 -- whether the element has a face with the key k
 unfoldable pub hasKey : Triple → Tet → Bool
 hasKey k t = ltb 0 (length (withKey k (facesOf t)))

@@ -5,7 +5,6 @@ pub mod Edges
 pub mod Passes
 pub mod Uses
 pub mod Scores
-pub mod Triangles
 pub mod Points
 pub mod Rounds
 pub mod Keeps

@@ -14,7 +14,7 @@ use Rattle.mesh.specs.declared.element.Tet.{Tet}
 use Rattle.mesh.specs.declared.element.Triple.{Triple}
 use Rattle.mesh.specs.inside.Complex.{Proper}
 use Rattle.mesh.specs.Element.{verticesOf, keyOf}
-use Rattle.mesh.specs.Boundary.{allFaces, withKey}
+use Rattle.mesh.specs.Boundary.{allFaces, withKey, OneOrTwo}
 use Rattle.mesh.specs.Intake.{sizedPoint, boundsIn, optionsIn, intake}
 use Rattle.mesh.specs.Measure.{measure, scoreOf, lowestOf}
 use Rattle.mesh.proofs.Laws.Bools.{and-left, and-right}
@@ -22,10 +22,10 @@ use Rattle.repair.specs.Mesh.{Mesh, made}
 use Rattle.repair.specs.Smooth
 use Rattle.repair.specs.Flip
 use Rattle.repair.specs.Step.{State, Call, meshOf, given, lengthsOf}
-use Rattle.repair.specs.Wholeness.{OneOrTwo, Exact, Wholeness, StaysClosed}
+use Rattle.repair.specs.Wholeness.{Exact, Wholeness, StaysClosed}
 use Rattle.repair.proofs.Laws.Improve.Scores.{Floor, floor-of, smaller-right, tenth-exact}
 use Rattle.repair.proofs.Laws.Improve.Points.{points-near}
-use Rattle.repair.proofs.Laws.Improve.Triangles.{boundary-triangles}
+use Rattle.mesh.proofs.Laws.Boundary.Meaning.{fine}
 use Rattle.repair.proofs.Laws.Improve.Intake.{Passed, intake-passed}
 use Rattle.repair.proofs.Laws.Improve.Keeps.{Sound, Keeps, floorUnits}
 use Rattle.repair.proofs.Laws.Improve.Buffers.{intake-sound, committed-whole}
@@ -57,7 +57,7 @@ smooth-whole c s count n h r =
     committed-whole s n 0 (record {
       proper = subst₂ (λ v ts. Proper v (map verticesOf ts)) (sym (k .vertices)) (sym (k .elements)) (S .proper);
       alternates = smooth-alternates m n k;
-      triangles = subst (λ ts. (f : Triple) → List·Memᴰ f (allFaces ts) → OneOrTwo (withKey (keyOf f) (allFaces ts))) (sym (k .elements)) (boundary-triangles (m .elements) (p .boundary));
+      triangles = subst (λ ts. (f : Triple) → List·Memᴰ f (allFaces ts) → OneOrTwo (withKey (keyOf f) (allFaces ts))) (sym (k .elements)) (fine (m .elements) (p .boundary));
       determinants = k .determinants;
       scores = λ t i. (score-exact (n .points) (k .near) t, floor-of (floorUnits m) 0 (scoreOf (n .points) t) (le-trans (floor-lowest m near) (k .scores t i)));
     })

@@ -11,8 +11,7 @@ use Rattle.mesh.specs.declared.element.Triple.{Triple}
 use Rattle.mesh.specs.Complex.{Sub}
 use Rattle.mesh.specs.inside.Complex.{Proper}
 use Rattle.mesh.specs.Element.{triple, verticesOf, facesOf, keyOf, parityOf}
-use Rattle.mesh.specs.Boundary.{sameTriple, allFaces, withKey, boundaryNumber}
-use Rattle.mesh.specs.inside.Surface.{OneOrTwo, one, two}
+use Rattle.mesh.specs.Boundary.{sameTriple, allFaces, withKey, boundaryNumber, OneOrTwo, one, two}
 use Rattle.mesh.proofs.Laws.Boundary.Order.{same-refl, same-sound}
 use Rattle.mesh.proofs.Laws.Boundary.Meaning.{fine, fine-back}
 use Rattle.mesh.proofs.Laws.Link.Keys.{Fours, proper-fours, face-nodup, flip≢}

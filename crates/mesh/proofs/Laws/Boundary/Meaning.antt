@@ -16,8 +16,7 @@ use Rattle.mesh.specs.Sort.{sort}
 use Rattle.mesh.specs.inside.Sort.{elem}
 use Rattle.mesh.specs.Complex.{keep}
 use Rattle.mesh.specs.Element.{keyOf, parityOf}
-use Rattle.mesh.specs.Boundary.{sameTriple, leTriple, allFaces, withKey, keyNumber, firstNumber, boundaryNumber, singles, boundaryOf}
-use Rattle.mesh.specs.inside.Surface.{OneOrTwo, one, two}
+use Rattle.mesh.specs.Boundary.{sameTriple, leTriple, allFaces, withKey, keyNumber, firstNumber, boundaryNumber, singles, boundaryOf, OneOrTwo, one, two}
 use Rattle.mesh.proofs.Laws.Bools.{clash}
 use Rattle.mesh.proofs.Laws.Sort.{length-sort, elem-sort}
 use Rattle.mesh.proofs.Laws.Boundary.Order.{same-refl, same-sound}

@@ -20,7 +20,7 @@ use Rattle.mesh.specs.Complex.{alternating}
 use Rattle.mesh.specs.inside.Complex.{Proper, SameCount}
 use Rattle.mesh.specs.Tests.{every}
 use Rattle.mesh.specs.Element.{tet, verticesOf, cornersOf, keyOf}
-use Rattle.mesh.specs.Boundary.{allFaces, withKey, boundaryNumber, boundaryOf}
+use Rattle.mesh.specs.Boundary.{allFaces, withKey, boundaryNumber, boundaryOf, OneOrTwo}
 use Rattle.mesh.specs.Measure.{Measure, measure, determinantOf, scoreOf, lowestOf}
 use Rattle.mesh.proofs.Laws.Complex.Sets.{and-fst, and-snd}
 use Rattle.mesh.proofs.Laws.Complex.Steps.{same-alternating}
@@ -28,10 +28,10 @@ use Rattle.mesh.proofs.Laws.Link.Simplices.{rising, rising-nodup}
 use Rattle.mesh.proofs.Laws.Link.Keys.{proper-fours}
 use Rattle.mesh.proofs.Laws.Link.Closed.{AtMostTwo, boundary-two}
 use Rattle.repair.specs.Mesh.{Mesh, made, refused}
-use Rattle.repair.specs.Wholeness.{Exact, OneOrTwo}
+use Rattle.repair.specs.Wholeness.{Exact}
 use Rattle.repair.specs.Flip.{State, live, listedFaces, listedEdges, tryFace, tryFaces, tryEdge, tryEdges, flips, sameTriples, sortedKeys, endNumber, flipBy, flip}
 use Rattle.repair.proofs.Laws.Smooth.Scores.{AllNear, score-exact, lowest-exact, lowest-one, lowest-under, lowest-over, no-loss}
-use Rattle.repair.proofs.Laws.Improve.Triangles.{boundary-triangles}
+use Rattle.mesh.proofs.Laws.Boundary.Meaning.{fine}
 use Rattle.repair.proofs.Laws.Flip.Slots.{Aged, aged-start, live-some}
 use Rattle.repair.proofs.Laws.Flip.Replace.{Held, Chain}
 use Rattle.repair.proofs.Laws.Flip.Listed.{faces-rise, ends-differ}
@@ -148,7 +148,7 @@ flip-keeps m near P whole upright count m′ h = go (eqb (endNumber (m .surface)
       masks = refl;
       proper = held .proper;
       alternates = sym (same-alternating (length (m .points)) (map verticesOf (m .elements)) (length (m .points)) (map verticesOf ts) (held .count));
-      triangles = boundary-triangles ts (end-fine (m .surface) ts (eqb-true (endNumber (m .surface) ts) 0 e));
+      triangles = fine ts (end-fine (m .surface) ts (eqb-true (endNumber (m .surface) ts) 0 e));
       surface = refl;
       determinants = held .upright;
       scores = held .floor;

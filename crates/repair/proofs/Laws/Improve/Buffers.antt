@@ -13,14 +13,14 @@ use Rattle.mesh.specs.declared.element.Triple.{Triple}
 use Rattle.mesh.specs.Words.{pointsOf}
 use Rattle.mesh.specs.Complex.{alternating}
 use Rattle.mesh.specs.Element.{tets, verticesOf, keyOf, triples}
-use Rattle.mesh.specs.Boundary.{allFaces, withKey}
+use Rattle.mesh.specs.Boundary.{allFaces, withKey, OneOrTwo}
 use Rattle.mesh.specs.declared.intake.Lengths.{Lengths}
 use Rattle.mesh.specs.Tests.{every}
 use Rattle.mesh.specs.Intake.{wellNumbered, allDifferent, intake}
 use Rattle.mesh.specs.Measure.{determinantOf, scoreOf}
 use Rattle.repair.specs.Mesh.{Mesh}
 use Rattle.repair.specs.Step.{State, Call, meshOf, floatsOf, elementWords, tripleWords, committed, given}
-use Rattle.repair.specs.Wholeness.{OneOrTwo, Exact, Whole}
+use Rattle.repair.specs.Wholeness.{Exact, Whole}
 use Rattle.repair.proofs.Laws.Improve.Scores.{Floor}
 use Rattle.repair.proofs.Laws.Improve.Keeps.{Sound, Keeps, floorUnits}
 use Rattle.repair.proofs.Laws.Improve.Intake.{intake-passed, passed-proper, passed-upright, proper-numbered, proper-different}

@@ -26,7 +26,7 @@ use Rattle.repair.specs.Wholeness.{PassesIntake, Apart, ApartAlong, floo
 use Rattle.repair.proofs.Laws.Improve.Single.{Distinct}
 use Rattle.repair.proofs.Laws.Improve.Scores.{Floor, floor-of, smaller-keeps, lowest-keeps, tenth-one}
 use Rattle.repair.proofs.Laws.Improve.Points.{scores-exact}
-use Rattle.repair.proofs.Laws.Improve.Triangles.{boundary-triangles}
+use Rattle.mesh.proofs.Laws.Boundary.Meaning.{fine}
 use Rattle.repair.proofs.Laws.Improve.Keeps.{floor-tenth, floor-score, improve-keeps}
 use Rattle.repair.proofs.Laws.Improve.Intake.{intake-passed}
 use Rattle.repair.proofs.Laws.Improve.Buffers.{mesh-parameters, intake-sound, committed-whole}
@@ -101,7 +101,7 @@ start-whole s p =
       numbered = q .numbered;
       different = q .different;
       alternates = refl;
-      triangles = boundary-triangles (meshOf s .elements) (q .boundary);
+      triangles = fine (meshOf s .elements) (q .boundary);
       determinants = S .upright;
       scores = λ t i. (scores-exact (meshOf s .points) (S .sized) t, floor-of (unitsOf (floorOf s)) 0 (scoreOf (meshOf s .points) t) (floor-score (meshOf s) S t i));
     }

@@ -1,12 +1,13 @@
 -- Demand 3 for one `improve` that makes a mesh, on values: the alternating count, the triangles, the determinants and the scores.
 -- Assumes nothing.
 use mathlib.Core.Path.{_≡_, refl, sym, ap, subst, subst₂, _∙_}
+use mathlib.Core.Logic.{inl, inr}
 use mathlib.Core.Bool.{Bool, true, false, cond}
 use mathlib.Core.List.{[], map, List·Memᴰ, Memᴰ·of-map, Memᴰ·map}
 use Prim.Native.Nat.{ℕ, _≤_}
 use native.Mathlib.Nat.{le-trans}
 use native.Mathlib.Omega.{arith}
-use borrow.Author.Tests.{eqb-true}
+use borrow.Author.Tests.{eqb-true, eqb-false}
 use lib.Dec.{eqb}
 use lib.Ieee.{Float, lt}
 use lib.ListN.{length, length-map}
@@ -24,20 +25,29 @@ use Rattle.mesh.specs.inside.Complex.{Proper}
 use Rattle.mesh.specs.inside.Moves.{Run, start, then}
 use Rattle.mesh.specs.Tests.{every}
 use Rattle.mesh.specs.Element.{verticesOf, keyOf}
-use Rattle.mesh.specs.Boundary.{allFaces, withKey}
+use Rattle.mesh.specs.Boundary.{allFaces, withKey, boundaryNumber, OneOrTwo}
 use Rattle.mesh.specs.Intake.{sizedPoint}
 use Rattle.mesh.specs.Measure.{Measure, measure, determinantOf, scoreOf, lowestOf}
-use Rattle.mesh.proofs.Laws.Complex.Sets.{mem-nil}
+use Rattle.mesh.proofs.Laws.Complex.Sets.{split, mem-nil}
 use Rattle.mesh.proofs.Laws.Complex.Steps.{run-keeps, run-alternating}
+use Rattle.mesh.proofs.Laws.Boundary.Meaning.{fine}
 use Rattle.repair.specs.Mesh.{Mesh, made, refused}
 use Rattle.repair.specs.Improve.{State, imageOf, placeOf, rounds, renumbered, endNumber, improveBy, improve}
-use Rattle.repair.specs.Wholeness.{OneOrTwo, Exact}
+use Rattle.repair.specs.Wholeness.{Exact}
 use Rattle.repair.proofs.Laws.Improve.Single.{Distinct, size}
 use Rattle.repair.proofs.Laws.Improve.Uses.{uses, renumber-step, points-kept}
 use Rattle.repair.proofs.Laws.Improve.Scores.{Floor, floor-of, smaller-left, smaller-right, lowest-keeps, lowest-least, tenth-exact, one-exact}
-use Rattle.repair.proofs.Laws.Improve.Triangles.{boundary-triangles, end-boundary}
 use Rattle.repair.proofs.Laws.Improve.Points.{taken-sized, scores-exact}
 use Rattle.repair.proofs.Laws.Improve.Rounds.{Kept, rounds-kept}
+
+-- no number at the end: none at the boundary
+end-boundary : (m : Mesh) → endNumber m ≡ 0 → boundaryNumber (m .elements) ≡ 0
+unfolding endNumber
+end-boundary m h =
+    elim (split (eqb (boundaryNumber (m .elements)) 0)) [
+      | inl q ↦ eqb-true (boundaryNumber (m .elements)) 0 q
+      | inr q ↦ absurd (eqb-false (boundaryNumber (m .elements)) 0 q (rw q at h))
+    ]
 
 -- what intake says of a mesh
 pub record Sound (m : Mesh) : Type 0 where
@@ -134,7 +144,7 @@ module _ (o : Options) (m : Mesh) (S : Sound m) (d : Distinct o (m .parameters))
       record {
         proper = renumbered-proper;
         alternates = ap (λ k. alternating k (map verticesOf (map place ts))) (length-map (uses ts) (pointAt (m .points))) ∙ sym (run-alternating (length (m .points)) (map verticesOf (m .elements)) (S .proper) last-run);
-        triangles = boundary-triangles (map place ts) (end-boundary (renumbered m ts) e);
+        triangles = fine (map place ts) (end-boundary (renumbered m ts) e);
         determinants = λ t i.
             let r = Memᴰ·of-map place ts i in
             subst (λ u. lt zero64 (determinantOf new u) ≡ true) (r .2) (ap (lt zero64) (points-kept (m .points) ts (r .1) determinant) ∙ last-kept .above (r .0) (r .1));
