@@ -380,7 +380,7 @@ TYPE = re.compile(r"^(?:pub(?:\(crate\))? )?(?:struct|enum) .*?^}\n", re.M | re.
 def types_only(text):
     """The struct and enum declarations of a source file, and the types that they use; nothing where there are none."""
     types = TYPE.findall(text)
-    uses = re.findall(r"^use \w+(?:::\w+)*::[A-Z]\w*;\n", text, re.M)
+    uses = re.findall(r"^use \w+(?:::\w+)*::[A-Z][a-z]\w*;\n", text, re.M)
     return "".join(uses + types) if types else ""
 
 
