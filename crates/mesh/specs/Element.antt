@@ -65,6 +65,16 @@ verticesOf t = t .a ∷ t .b ∷ t .c ∷ t .d ∷ []
 abbrev pub cornersOf : Triple → List ℕ
 cornersOf f = f .a ∷ f .b ∷ f .c ∷ []
 
+-- the vertices of all elements, in order
+unfoldable pub allVertices : List Tet → List ℕ
+allVertices [] = []
+allVertices (t ∷ ts) = verticesOf t ++ allVertices ts
+
+-- the corners of all triples, in order
+unfoldable pub allCorners : List Triple → List ℕ
+allCorners [] = []
+allCorners (f ∷ fs) = cornersOf f ++ allCorners fs
+
 -- the edge u v, its smaller vertex first
 abbrev pub edge : ℕ → ℕ → Pair
 edge u v = pair (min u v) (max u v)

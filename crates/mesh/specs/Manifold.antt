@@ -11,7 +11,7 @@ use Rattle.mesh.specs.Words.{zeroWords}
 use Rattle.mesh.specs.Complex.{mem}
 use Rattle.mesh.specs.Tests.{every}
 use Rattle.mesh.specs.Sets.{times}
-use Rattle.mesh.specs.Element.{cornersOf, pair, triples, edge, samePair}
+use Rattle.mesh.specs.Element.{allCorners, pair, triples, edge, samePair}
 
 -- the three edges of a triple
 abbrev pub sidesOf : Triple → List Pair
@@ -49,14 +49,9 @@ unfoldable pub oneCycle : List Pair → Bool
 oneCycle [] = true
 oneCycle (e ∷ es) = eqb (length (reach (length (e ∷ es)) (e ∷ es) (e .a ∷ []))) (length (e ∷ es))
 
--- the vertices of all triples
-unfoldable pub surfaceVertices : List Triple → List ℕ
-surfaceVertices [] = []
-surfaceVertices (f ∷ fs) = cornersOf f ++ surfaceVertices fs
-
 -- 22: "a nonmanifold boundary vertex"
 unfoldable pub nonmanifold : List Triple → Bool
-nonmanifold fs = not (edgesTwice fs && every (λ v. oneCycle (surfaceLink v fs)) (surfaceVertices fs))
+nonmanifold fs = not (edgesTwice fs && every (λ v. oneCycle (surfaceLink v fs)) (allCorners fs))
 
 -- ---- within one area
 

@@ -16,7 +16,7 @@ use Rattle.mesh.specs.Words.{pointAt}
 use Rattle.mesh.specs.Sort.{sort, unique}
 use Rattle.mesh.specs.Complex.{mem, sub, keep}
 use Rattle.mesh.specs.Tests.{every, nodup, any}
-use Rattle.mesh.specs.Element.{pair, allEdges, samePair, tet, verticesOf, lePair}
+use Rattle.mesh.specs.Element.{pair, allEdges, samePair, tet, verticesOf, allVertices, lePair}
 use Rattle.mesh.specs.Boundary.{boundaryNumber, boundaryOf}
 use Rattle.mesh.specs.Feature.{bitsOf, linkOk}
 use Rattle.mesh.specs.Manifold.{nonmanifold}
@@ -145,11 +145,6 @@ module _ (o : Options) (m : Mesh) (μ : Measure) where
   rounds (suc n) s = cond (eqb (length (round s .replaced)) (length (s .replaced))) s (rounds n (round s))
 
 -- ---- the end
-
--- the vertices of all elements
-unfoldable pub allVertices : List Tet → List ℕ
-allVertices [] = []
-allVertices (t ∷ ts) = verticesOf t ++ allVertices ts
 
 -- the vertices in the order of their first use, each once
 unfoldable pub firstUses : List ℕ → List ℕ

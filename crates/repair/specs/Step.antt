@@ -14,7 +14,7 @@ use Rattle.mesh.specs.declared.element.Triple.{Triple}
 use Rattle.mesh.specs.declared.element.Tet.{Tet}
 use Rattle.mesh.specs.declared.intake.Sizes.{Sizes}
 use Rattle.mesh.specs.Words.{pointsOf}
-use Rattle.mesh.specs.Element.{tets, triples, verticesOf, cornersOf}
+use Rattle.mesh.specs.Element.{tets, triples, allVertices, allCorners}
 use Rattle.mesh.specs.declared.intake.Settings.{Settings}
 use Rattle.mesh.specs.declared.intake.Lengths.{Lengths}
 use Rattle.mesh.specs.Intake.{Given, intake}
@@ -98,18 +98,10 @@ meshOf s = record {
   surface = triples (s .sizes .triples) (s .surface);
 }
 
--- the floats of points, and the words of elements and of triples
+-- the floats of points
 unfoldable pub floatsOf : List Point → List Float
 floatsOf [] = []
 floatsOf (p ∷ ps) = p .x ∷ p .y ∷ p .z ∷ floatsOf ps
-
-unfoldable pub elementWords : List Tet → List ℕ
-elementWords [] = []
-elementWords (t ∷ ts) = verticesOf t ++ elementWords ts
-
-unfoldable pub tripleWords : List Triple → List ℕ
-tripleWords [] = []
-tripleWords (f ∷ fs) = cornersOf f ++ tripleWords fs
 
 -- new values at the front, and "each place past the new counts keeps what it held"
 abbrev pub over : {A : Type 0} → List A → List A → List A
@@ -124,8 +116,8 @@ committed m s = record {
   parameters = over (floatsOf (m .parameters)) (s .parameters);
   points = over (floatsOf (m .points)) (s .points);
   masks = over (m .masks) (s .masks);
-  elements = over (elementWords (m .elements)) (s .elements);
-  surface = over (tripleWords (m .surface)) (s .surface);
+  elements = over (allVertices (m .elements)) (s .elements);
+  surface = over (allCorners (m .surface)) (s .surface);
   sizes = sizesOf m;
 }
 

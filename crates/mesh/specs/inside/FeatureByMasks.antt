@@ -4,20 +4,15 @@
 -- and for proofs; definitions only.
 use Prim.Native.Nat.{ℕ}
 use mathlib.Core.Bool.{Bool, not, _&&_, _||_}
-use mathlib.Core.List.{List, [], _∷_, _++_, map}
+use mathlib.Core.List.{List, [], _∷_, map}
 use lib.Dec.{eqb, leb}
 use lib.ListN.{length}
 use Rattle.mesh.specs.declared.element.Triple.{Triple}
 use Rattle.mesh.specs.Complex.{mem, within, keep}
 use Rattle.mesh.specs.Tests.{every}
-use Rattle.mesh.specs.Element.{cornersOf}
+use Rattle.mesh.specs.Element.{cornersOf, allCorners}
 use Rattle.mesh.specs.Link.{sameSimplex}
 use Rattle.mesh.specs.Feature.{shared}
-
--- the vertices of the faces, each as often as faces have it
-abbrev pub cornersIn : List Triple → List ℕ
-cornersIn [] = []
-cornersIn (f ∷ fs) = cornersOf f ++ cornersIn fs
 
 -- do u and v lie on a common face
 abbrev pub joined : List Triple → ℕ → ℕ → Bool
@@ -44,4 +39,4 @@ module _ (stratum : ℕ → ℕ) (a b : ℕ) (fs : List Triple) where
 
   -- `feature_link_ok`, by masks
   unfoldable pub featureByMasks : Bool
-  featureByMasks = every (λ x. eqb x a || (eqb x b || (rimOk x && curveOk x))) (cornersIn fs)
+  featureByMasks = every (λ x. eqb x a || (eqb x b || (rimOk x && curveOk x))) (allCorners fs)

@@ -26,12 +26,11 @@ ghost use Prim.Native.Nat.{_+_, _-_, _*_, _≤_};
 ghost use lib.Dec.{ltb};
 ghost use lib.ListN.{length, take, drop};
 ghost use Rattle.mesh.specs.Tests.{every};
-ghost use Rattle.mesh.specs.Element.{tets};
+ghost use Rattle.mesh.specs.Element.{tets, allVertices};
 ghost use Rattle.mesh.specs.Words.{wordAt};
 ghost use Rattle.mesh.specs.inside.Intake.{pointIn};
 ghost use Rattle.mesh.specs.inside.Manifold.{KeptBelow};
 ghost use Rattle.repair.specs.declared.answer.Answer.{Answer};
-ghost use Rattle.repair.specs.Improve.{allVertices};
 ghost use Rattle.repair.specs.Step.{State, sizesAfter, floatsOf};
 ghost use Rattle.repair.specs.inside.improve.Renumber.{improveEnd, EndArea, EndBuffers, numberedAt, metAt, Unmet, Numbered, Renumbered, testedOutcome, testedPart, Ended, listed, movedPoints, movedMasks, MeshRoom, movedIn};
 

@@ -16,7 +16,7 @@ use Rattle.mesh.specs.declared.intake.Sizes.{Sizes}
 use Rattle.mesh.specs.Words.{inside, copied}
 use Rattle.mesh.specs.Sort.{sort}
 use Rattle.mesh.specs.inside.Rows.{leRow, eqRow}
-use Rattle.mesh.specs.Element.{tets}
+use Rattle.mesh.specs.Element.{tets, allVertices}
 use Rattle.mesh.specs.Intake.{intake}
 use Rattle.mesh.specs.inside.Euler.{vertexRows, edgeRows, triangleRows, spread, different, countsOf, countFits, Counted, countedIn}
 use Rattle.mesh.proofs.Laws.Bools.{clash, and-intro}
@@ -27,7 +27,7 @@ use Rattle.mesh.proofs.Laws.Boundary.Faces.{tets-kept}
 use Rattle.repair.specs.declared.answer.Answer.{Answer}
 use Rattle.repair.specs.declared.answer.Answer.the-variants.{Done, Refused}
 use Rattle.repair.specs.Mesh.{Result, made, refused}
-use Rattle.repair.specs.Step.{State, Call, Pass, sizesAfter, elementWords, committed, lengthsOf, given, meshOf, resultOf, finish, step}
+use Rattle.repair.specs.Step.{State, Call, Pass, sizesAfter, committed, lengthsOf, given, meshOf, resultOf, finish, step}
 use Rattle.report.specs.declared.run.Ran.{Ran}
 use Rattle.report.specs.declared.run.Ran.the-variants.{Finished, Stopped}
 use Rattle.report.specs.Run.{Setting, callIn, after, called, runFlip, runSmooth, runPasses}
@@ -80,8 +80,8 @@ simplices-few ts = (
 -- ---- the room that a call leaves
 
 -- four words an element
-words-long : (ts : List Tet) → length (elementWords ts) ≡ 4 * length ts
-unfolding elementWords
+words-long : (ts : List Tet) → length (allVertices ts) ≡ 4 * length ts
+unfolding allVertices
 words-long [] = refl
 words-long (t ∷ ts) = omega (arith, words-long ts)
 
@@ -94,7 +94,7 @@ isRefused (Refused number) = true
 finish-room : (s : State) (r : Result) (count : ℕ) (z : Sizes) → finish s r .0 ≡ Done count z → 4 * finish s r .1 .sizes .elements ≤ length (finish s r .1 .elements)
 unfolding committed
 finish-room s (made k m) count z e =
-    omega (arith, length-append (elementWords (m .elements)) (drop (length (elementWords (m .elements))) (s .elements)), words-long (m .elements))
+    omega (arith, length-append (allVertices (m .elements)) (drop (length (allVertices (m .elements))) (s .elements)), words-long (m .elements))
 finish-room s (refused k) count z e = clash true refl (ap isRefused e)
 
 -- a call that gives a count leaves its elements in their buffer

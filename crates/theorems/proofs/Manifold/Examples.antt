@@ -8,9 +8,9 @@ use Prim.Native.Nat.{ℕ}
 use Rattle.mesh.specs.declared.element.Triple.{Triple}
 use Rattle.mesh.specs.Complex.{mem}
 use Rattle.mesh.specs.Sort.{insert, sort}
-use Rattle.mesh.specs.Element.{tet, triple, cornersOf, sortFirst, sortLast, keyOf}
+use Rattle.mesh.specs.Element.{tet, triple, cornersOf, sortFirst, sortLast, keyOf, allCorners}
 use Rattle.mesh.specs.Boundary.{leTriple, allFaces, singles, boundaryOf}
-use Rattle.mesh.specs.Manifold.{surfaceEdges, edgesTwice, surfaceLink, grow, reach, oneCycle, surfaceVertices, nonmanifold}
+use Rattle.mesh.specs.Manifold.{surfaceEdges, edgesTwice, surfaceLink, grow, reach, oneCycle, nonmanifold}
 use Rattle.mesh.proofs.Laws.Complex.Sets.{mem-cases, mem-nil}
 use Rattle.theorems.specs.Manifold.{Different, Manifold}
 use Rattle.theorems.proofs.Manifold.Whole.{manifold-elim}
@@ -19,15 +19,15 @@ use Rattle.theorems.proofs.Manifold.Boundary.{boundary-manifold}
 -- ---- surfaces of elements
 
 one-element : Manifold (boundaryOf (tet 0 1 2 3 ∷ []))
-unfolding insert sort sortFirst sortLast keyOf leTriple allFaces singles boundaryOf surfaceEdges edgesTwice surfaceLink grow reach oneCycle surfaceVertices nonmanifold
+unfolding insert sort sortFirst sortLast keyOf leTriple allFaces singles boundaryOf surfaceEdges edgesTwice surfaceLink grow reach oneCycle allCorners nonmanifold
 one-element = boundary-manifold 4 (tet 0 1 2 3 ∷ []) refl .0 refl
 
 at-one-vertex : Manifold (boundaryOf (tet 0 1 2 3 ∷ tet 0 4 5 6 ∷ [])) → ⊥
-unfolding insert sort sortFirst sortLast keyOf leTriple allFaces singles boundaryOf surfaceEdges edgesTwice surfaceLink grow reach oneCycle surfaceVertices nonmanifold
+unfolding insert sort sortFirst sortLast keyOf leTriple allFaces singles boundaryOf surfaceEdges edgesTwice surfaceLink grow reach oneCycle allCorners nonmanifold
 at-one-vertex m = true≢false (boundary-manifold 7 (tet 0 1 2 3 ∷ tet 0 4 5 6 ∷ []) refl .1 m)
 
 along-one-edge : Manifold (boundaryOf (tet 0 1 2 3 ∷ tet 0 1 4 5 ∷ [])) → ⊥
-unfolding insert sort sortFirst sortLast keyOf leTriple allFaces singles boundaryOf surfaceEdges edgesTwice surfaceLink grow reach oneCycle surfaceVertices nonmanifold
+unfolding insert sort sortFirst sortLast keyOf leTriple allFaces singles boundaryOf surfaceEdges edgesTwice surfaceLink grow reach oneCycle allCorners nonmanifold
 along-one-edge m = true≢false (boundary-manifold 6 (tet 0 1 2 3 ∷ tet 0 1 4 5 ∷ []) refl .1 m)
 
 -- ---- the premises
@@ -48,7 +48,7 @@ only-zero x f m h =
         ]
 
 one-point : Manifold (triple 0 0 0 ∷ []) × (nonmanifold (triple 0 0 0 ∷ []) ≡ true)
-unfolding surfaceEdges edgesTwice surfaceLink grow reach oneCycle surfaceVertices nonmanifold
+unfolding surfaceEdges edgesTwice surfaceLink grow reach oneCycle allCorners nonmanifold
 one-point = (
   record {
     edges = λ f m u v p q n. absurd (n (only-zero u f m p ∙ sym (only-zero v f m q)));
@@ -59,7 +59,7 @@ one-point = (
 
 -- a triangle with its other side is a closed manifold, and the link of a vertex is one edge twice
 two-sided : Manifold (triple 0 1 2 ∷ triple 0 2 1 ∷ [])
-unfolding surfaceEdges edgesTwice surfaceLink grow reach oneCycle surfaceVertices nonmanifold
+unfolding surfaceEdges edgesTwice surfaceLink grow reach oneCycle allCorners nonmanifold
 two-sided = manifold-elim (triple 0 1 2 ∷ triple 0 2 1 ∷ []) different refl
   where
     different : Different (triple 0 1 2 ∷ triple 0 2 1 ∷ [])

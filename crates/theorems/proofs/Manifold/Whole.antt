@@ -15,8 +15,8 @@ use Rattle.mesh.specs.declared.element.Triple.{Triple}
 use Rattle.mesh.specs.Complex.{mem}
 use Rattle.mesh.specs.Tests.{every}
 use Rattle.mesh.specs.Sets.{times}
-use Rattle.mesh.specs.Element.{cornersOf, pair, samePair}
-use Rattle.mesh.specs.Manifold.{surfaceEdges, edgesTwice, surfaceLink, oneCycle, surfaceVertices, nonmanifold}
+use Rattle.mesh.specs.Element.{cornersOf, pair, samePair, allCorners}
+use Rattle.mesh.specs.Manifold.{surfaceEdges, edgesTwice, surfaceLink, oneCycle, nonmanifold}
 use Rattle.mesh.proofs.Laws.Complex.Sets.{split, and-fst, and-snd, mem-cases, mem-nil}
 use Rattle.mesh.proofs.Laws.Link.Members.{Decides, keep-same, every-elim, every-intro}
 use Rattle.mesh.proofs.Laws.Link.Simplices.{every-mem, mem-every}
@@ -148,14 +148,14 @@ module _ {v : ℕ} {fs : List Triple} where
       let start = edge-vertex (c .sound e₀ (List·Memᴰ·head refl)) in
       (closed-joined seen c k m (h (e₀ .a) (e .a) start (edge-vertex s)), closed-joined seen c k m (h (e₀ .a) (e .b) start (edge-vertex (edge-back s)))))
 
-surface-vertex : (v : ℕ) (fs : List Triple) {f : Triple} → List·Memᴰ f fs → mem v (cornersOf f) ≡ true → mem v (surfaceVertices fs) ≡ true
-unfolding surfaceVertices
+surface-vertex : (v : ℕ) (fs : List Triple) {f : Triple} → List·Memᴰ f fs → mem v (cornersOf f) ≡ true → mem v (allCorners fs) ≡ true
+unfolding allCorners
 surface-vertex v [] m h = absurd (List·Memᴰ·not-nil m)
 surface-vertex v (g ∷ fs) {f} m h = go (List·Memᴰ·cases-cons m) (surface-vertex v fs {f = f})
   where
-    go : (f ≡ g) ⊎ List·Memᴰ f fs → (List·Memᴰ f fs → mem v (cornersOf f) ≡ true → mem v (surfaceVertices fs) ≡ true) → mem v (cornersOf g ++ surfaceVertices fs) ≡ true
-    go (inl q) ih = mem-left v (cornersOf g) (surfaceVertices fs) (rw q at h)
-    go (inr q) ih = mem-right v (cornersOf g) (surfaceVertices fs) (ih q h)
+    go : (f ≡ g) ⊎ List·Memᴰ f fs → (List·Memᴰ f fs → mem v (cornersOf f) ≡ true → mem v (allCorners fs) ≡ true) → mem v (cornersOf g ++ allCorners fs) ≡ true
+    go (inl q) ih = mem-left v (cornersOf g) (allCorners fs) (rw q at h)
+    go (inr q) ih = mem-right v (cornersOf g) (allCorners fs) (ih q h)
 
 -- a vertex of the link is an end of a pair
 vertex-pair : (v : ℕ) (fs : List Triple) → Different fs → (x : ℕ) → LinkVertex v fs x → (e : Pair) × List·Memᴰ e (surfaceLink v fs) × ((x ≡ e .a) ⊎ (x ≡ e .b))
@@ -171,10 +171,10 @@ vertex-pair v fs d x h =
       ],
     )
 
-links-elim : (fs : List Triple) → Different fs → EdgesOnTwo fs → every (λ v. oneCycle (surfaceLink v fs)) (surfaceVertices fs) ≡ true
+links-elim : (fs : List Triple) → Different fs → EdgesOnTwo fs → every (λ v. oneCycle (surfaceLink v fs)) (allCorners fs) ≡ true
     → (v : ℕ) → Connected v fs
 links-elim fs d t h v x y hx hy =
-    let o = every-mem (λ v. oneCycle (surfaceLink v fs)) (surfaceVertices fs) h v (surface-vertex v fs (hx .listed) (hx .corner)) in
+    let o = every-mem (λ v. oneCycle (surfaceLink v fs)) (allCorners fs) h v (surface-vertex v fs (hx .listed) (hx .corner)) in
     let a = cycle-joined (surfaceLink v fs) (cover v fs d t) o in
     joined-trans (joined-back (from a x hx)) (from a y hy)
   where
@@ -185,8 +185,8 @@ links-elim fs d t h v x y hx hy =
         elim (r .2) [ inl q ↦ rw q (j .0) | inr q ↦ rw q (j .1) ]
 
 links-intro : (fs : List Triple) → Different fs → EdgesOnTwo fs → ((v : ℕ) → Connected v fs)
-    → every (λ v. oneCycle (surfaceLink v fs)) (surfaceVertices fs) ≡ true
-links-intro fs d t h = mem-every (λ v. oneCycle (surfaceLink v fs)) (surfaceVertices fs) (λ v m. joined-cycle (surfaceLink v fs) (cover v fs d t) (h v))
+    → every (λ v. oneCycle (surfaceLink v fs)) (allCorners fs) ≡ true
+links-intro fs d t h = mem-every (λ v. oneCycle (surfaceLink v fs)) (allCorners fs) (λ v m. joined-cycle (surfaceLink v fs) (cover v fs d t) (h v))
 
 -- ---- the test
 
@@ -194,9 +194,9 @@ links-intro fs d t h = mem-every (λ v. oneCycle (surfaceLink v fs)) (surfaceVer
 pub manifold-elim : (fs : List Triple) → Different fs → nonmanifold fs ≡ false → Manifold fs
 unfolding nonmanifold
 manifold-elim fs d h =
-    let k = not-false (edgesTwice fs && every (λ v. oneCycle (surfaceLink v fs)) (surfaceVertices fs)) h in
-    let t = edges-elim fs d (and-fst (edgesTwice fs) (every (λ v. oneCycle (surfaceLink v fs)) (surfaceVertices fs)) k) in
-    record { edges = t; links = links-elim fs d t (and-snd (edgesTwice fs) (every (λ v. oneCycle (surfaceLink v fs)) (surfaceVertices fs)) k) }
+    let k = not-false (edgesTwice fs && every (λ v. oneCycle (surfaceLink v fs)) (allCorners fs)) h in
+    let t = edges-elim fs d (and-fst (edgesTwice fs) (every (λ v. oneCycle (surfaceLink v fs)) (allCorners fs)) k) in
+    record { edges = t; links = links-elim fs d t (and-snd (edgesTwice fs) (every (λ v. oneCycle (surfaceLink v fs)) (allCorners fs)) k) }
 
 -- a closed manifold passes the test
 pub manifold-intro : (fs : List Triple) → Different fs → Manifold fs → nonmanifold fs ≡ false

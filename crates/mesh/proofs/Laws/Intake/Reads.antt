@@ -1,17 +1,17 @@
 -- Elements and points by index: what `tet_at` and `point_at` read is the element or the point with that number. Assumes nothing.
 use mathlib.Core.Path.{_≡_, refl, sym, ap, ap₂, _∙_}
-use mathlib.Core.List.{List, _∷_}
+use mathlib.Core.List.{List, [], _∷_}
 use Prim.Native.Nat.{ℕ, zero, suc, _+_, _*_, _/_, _≤_, _<_}
 use native.Mathlib.Nat.{not-suc-le-zero, le-of-suc-le-suc}
 use native.Mathlib.Omega.{arith}
 use lib.Ieee.{Float}
-use lib.ListN.{length, getD, drop, List·getD-eq-default}
+use lib.ListN.{length, getD, take, drop, List·getD-eq-default}
 use lib.Seq.{getD-drop}
 use Rattle.geometry.specs.declared.point.Point.{Point}
 use Rattle.geometry.specs.Float.{zero64}
 use Rattle.mesh.specs.declared.element.Tet.{Tet}
 use Rattle.mesh.specs.Words.{wordAt, floatAt, zeroPoint, pointAt, pointsOf}
-use Rattle.mesh.specs.Element.{tet, tets}
+use Rattle.mesh.specs.Element.{tet, tets, triples, allVertices, allCorners}
 use Rattle.mesh.specs.inside.Intake.{tetAt, pointIn}
 
 -- ---- past the end
@@ -60,6 +60,29 @@ unfolding tets tetAt
 tets-at zero s e z h = absurd (not-suc-le-zero h)
 tets-at (suc n) s zero z h = refl
 tets-at (suc n) s (suc e) z h = tets-at n (drop 4 s) e z (le-of-suc-le-suc h) ∙ tet-drop s e
+
+-- the vertices of elements are their words
+pub elements-front : (n : ℕ) (s : List ℕ) → 4 * n ≤ length s → allVertices (tets n s) ≡ take (4 * n) s
+unfolding tets allVertices
+elements-front zero s h = refl
+elements-front (suc n) [] h = absurd (omega (arith, h))
+elements-front (suc n) (a ∷ []) h = absurd (omega (arith, h))
+elements-front (suc n) (a ∷ b ∷ []) h = absurd (omega (arith, h))
+elements-front (suc n) (a ∷ b ∷ c ∷ []) h = absurd (omega (arith, h))
+elements-front (suc n) (a ∷ b ∷ c ∷ d ∷ s) h =
+    let e : 4 * suc n ≡ suc (suc (suc (suc (4 * n)))) = omega arith in
+    ap (λ (l : List ℕ). a ∷ b ∷ c ∷ d ∷ l) (elements-front n s (omega (arith, h))) ∙ sym (ap (λ k. take k (a ∷ b ∷ c ∷ d ∷ s)) e)
+
+-- the corners of triples are their words
+pub triples-front : (n : ℕ) (s : List ℕ) → 3 * n ≤ length s → allCorners (triples n s) ≡ take (3 * n) s
+unfolding triples allCorners
+triples-front zero s h = refl
+triples-front (suc n) [] h = absurd (omega (arith, h))
+triples-front (suc n) (a ∷ []) h = absurd (omega (arith, h))
+triples-front (suc n) (a ∷ b ∷ []) h = absurd (omega (arith, h))
+triples-front (suc n) (a ∷ b ∷ c ∷ s) h =
+    let e : 3 * suc n ≡ suc (suc (suc (3 * n))) = omega arith in
+    ap (λ (l : List ℕ). a ∷ b ∷ c ∷ l) (triples-front n s (omega (arith, h))) ∙ sym (ap (λ k. take k (a ∷ b ∷ c ∷ s)) e)
 
 -- ---- points
 

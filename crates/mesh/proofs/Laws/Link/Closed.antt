@@ -16,12 +16,12 @@ use Rattle.mesh.specs.Complex.{mem, sub, within, keep, upTo, Nodup, Sub}
 use Rattle.mesh.specs.inside.Complex.{star, IsElement, Proper}
 use Rattle.mesh.specs.Sort.{insert, sort}
 use Rattle.mesh.specs.Sets.{times}
-use Rattle.mesh.specs.Element.{triple, keyOf, verticesOf, cornersOf}
+use Rattle.mesh.specs.Element.{triple, keyOf, verticesOf, cornersOf, allCorners}
 use Rattle.mesh.specs.Boundary.{sameTriple, leTriple, allFaces, withKey, keyNumber, firstNumber, boundaryNumber}
 use Rattle.mesh.specs.Link.{sameSimplex, boundaryAbout}
 use Rattle.mesh.specs.Tests.{every}
 use Rattle.mesh.specs.Feature.{bitsOf, shared, featureOk}
-use Rattle.mesh.specs.inside.FeatureByMasks.{cornersIn, joined, outlives, onCurve, rimOk, curveOk, featureByMasks}
+use Rattle.mesh.specs.inside.FeatureByMasks.{joined, outlives, onCurve, rimOk, curveOk, featureByMasks}
 use Rattle.mesh.proofs.Laws.Complex.Sets.{split, clash, nope, same, and-fst, and-snd, mem-here, mem-there, mem-cases, mem-nil, out, apart, Sub-cons, sub-elim, sub-intro, keep-mem, keep-nodup, rm, rm-out, rm-mem, rm-sub, rm-none, rm-nodup, rm-length, short, full, star-alike}
 use Rattle.mesh.proofs.Laws.Complex.Sums.{bit}
 use Rattle.mesh.proofs.Laws.Complex.Tets.{upTo-mem, upTo-nodup, tet-of}
@@ -184,7 +184,7 @@ abbrev pub rimByNeighbours : (ℕ → ℕ) → ℕ → ℕ → List Triple → �
 rimByNeighbours stratum a b fs x = not (onCurve stratum b x) || (joined fs b x || sameSimplex (shared (stratum a) (stratum x)) (shared (stratum b) (stratum x)))
 
 unfoldable pub featureByNeighbours : (ℕ → ℕ) → ℕ → ℕ → List Triple → Bool
-featureByNeighbours stratum a b fs = every (λ x. eqb x a || (eqb x b || (rimByNeighbours stratum a b fs x && curveOk stratum a b fs x))) (cornersIn fs)
+featureByNeighbours stratum a b fs = every (λ x. eqb x a || (eqb x b || (rimByNeighbours stratum a b fs x && curveOk stratum a b fs x))) (allCorners fs)
 
 every-same : (p q : ℕ → Bool) (xs : List ℕ) → ((x : ℕ) → mem x xs ≡ true → p x ≡ q x) → every p xs ≡ every q xs
 every-same p q xs h = same (λ k. mem-every q xs (λ x m. sym (h x m) ∙ every-mem p xs k x m)) (λ k. mem-every p xs (λ x m. h x m ∙ every-mem q xs k x m))
@@ -192,12 +192,12 @@ every-same p q xs h = same (λ k. mem-every q xs (λ x m. sym (h x m) ∙ every-
 -- where no triangle lies in three elements, the feature tests are those by neighbours
 pub boundary-neighbours : (stratum : ℕ → ℕ) (n a b : ℕ) (ts : List Tet) → Proper n (map verticesOf ts) → AtMostTwo (map verticesOf ts) → a ≢ b → Sub (bitsOf (stratum a)) (bitsOf (stratum b)) → featureOk stratum a b (boundaryAbout a b ts) ≡ featureByNeighbours stratum a b (boundaryAbout a b ts)
 unfolding featureByMasks featureByNeighbours
-boundary-neighbours stratum n a b ts P T ab S = boundary-masks stratum a b ts (proper-fours n ts P) ab S ∙ every-same (λ x. eqb x a || (eqb x b || (rimOk stratum a b fs x && curveOk stratum a b fs x))) (λ x. eqb x a || (eqb x b || (rimByNeighbours stratum a b fs x && curveOk stratum a b fs x))) (cornersIn fs) at
+boundary-neighbours stratum n a b ts P T ab S = boundary-masks stratum a b ts (proper-fours n ts P) ab S ∙ every-same (λ x. eqb x a || (eqb x b || (rimOk stratum a b fs x && curveOk stratum a b fs x))) (λ x. eqb x a || (eqb x b || (rimByNeighbours stratum a b fs x && curveOk stratum a b fs x))) (allCorners fs) at
   where
     fs : List Triple
     fs = boundaryAbout a b ts
 
-    at : (x : ℕ) → mem x (cornersIn fs) ≡ true → (eqb x a || (eqb x b || (rimOk stratum a b fs x && curveOk stratum a b fs x))) ≡ (eqb x a || (eqb x b || (rimByNeighbours stratum a b fs x && curveOk stratum a b fs x)))
+    at : (x : ℕ) → mem x (allCorners fs) ≡ true → (eqb x a || (eqb x b || (rimOk stratum a b fs x && curveOk stratum a b fs x))) ≡ (eqb x a || (eqb x b || (rimByNeighbours stratum a b fs x && curveOk stratum a b fs x)))
     at x m =
         elim (split (eqb x a)) [
           | inl h ↦ rw h refl

@@ -14,11 +14,11 @@ use lib.ListN.{length}
 use Rattle.mesh.specs.declared.element.Tet.{Tet}
 use Rattle.mesh.specs.declared.element.Triple.{Triple}
 use Rattle.mesh.specs.Complex.{mem, within, keep, Nodup, Sub}
-use Rattle.mesh.specs.Element.{cornersOf}
+use Rattle.mesh.specs.Element.{cornersOf, allCorners}
 use Rattle.mesh.specs.Feature.{onto, Label, label, sameLabel, bitsOf, shared, features, mapped, expected, neighbours, edgesOk, neighboursOk, featureOk, linkOk}
 use Rattle.mesh.specs.Tests.{every}
 use Rattle.mesh.specs.Link.{sameSimplex, interiorOk, boundaryAbout, boundaryOk}
-use Rattle.mesh.specs.inside.FeatureByMasks.{cornersIn, joined, outlives, onCurve, rimOk, curveOk, featureByMasks}
+use Rattle.mesh.specs.inside.FeatureByMasks.{joined, outlives, onCurve, rimOk, curveOk, featureByMasks}
 use Rattle.mesh.proofs.Laws.Complex.Sets.{split, clash, nope, same, or-cases, or-right, and-fst, and-snd, mem-here, mem-there, mem-nil, out, Sub-cons, short}
 use Rattle.mesh.proofs.Laws.Link.Members.{Alike, kept-elim, kept-intro, every-elim, every-intro, sameSet-elim, sameSet-intro}
 use Rattle.mesh.proofs.Laws.Link.Simplices.{every-mem, mem-every, rising, rising-head, rising-nodup, rising-unique}
@@ -45,9 +45,10 @@ of-two ys p q l i j =
 
 -- ---- the vertices of the faces
 
-pub on-face : (x : ℕ) (fs : List Triple) → mem x (cornersIn fs) ≡ within (x ∷ []) (map cornersOf fs)
+pub on-face : (x : ℕ) (fs : List Triple) → mem x (allCorners fs) ≡ within (x ∷ []) (map cornersOf fs)
+unfolding allCorners
 on-face x [] = refl
-on-face x (f ∷ fs) = joins (cornersOf f) (cornersIn fs) ∙ (ap (λ p. mem x (cornersOf f) || p) (on-face x fs) ∙ ap (λ p. p || within (x ∷ []) (map cornersOf fs)) (sym (and-true (mem x (cornersOf f)))))
+on-face x (f ∷ fs) = joins (cornersOf f) (allCorners fs) ∙ (ap (λ p. mem x (cornersOf f) || p) (on-face x fs) ∙ ap (λ p. p || within (x ∷ []) (map cornersOf fs)) (sym (and-true (mem x (cornersOf f)))))
   where
     joins : (xs ys : List ℕ) → mem x (xs ++ ys) ≡ (mem x xs || mem x ys)
     joins [] ys = refl
@@ -428,18 +429,18 @@ module _ (stratum : ℕ → ℕ) (a b : ℕ) (fs : List Triple) (ab : a ≢ b) (
       at : ℕ → Bool
       at x = eqb x a || (eqb x b || (rimOk stratum a b fs x && curveOk stratum a b fs x))
 
-      there : (edgesOk stratum a b fs && neighboursOk stratum a b fs) ≡ true → every at (cornersIn fs) ≡ true
+      there : (edgesOk stratum a b fs && neighboursOk stratum a b fs) ≡ true → every at (allCorners fs) ≡ true
       there h =
           let E = and-fst (edgesOk stratum a b fs) (neighboursOk stratum a b fs) h in
           let N = and-snd (edgesOk stratum a b fs) (neighboursOk stratum a b fs) h in
-          mem-every at (cornersIn fs) (λ x m. elim (end? x) [
+          mem-every at (allCorners fs) (λ x m. elim (end? x) [
             | inl e ↦ elim e [ inl p ↦ rw (eq-eqb x a p) refl | inr p ↦ or-right (eqb x a) (rw (eq-eqb x b p) refl) ]
             | inr n ↦ or-right (eqb x a) (or-right (eqb x b) (rw (rim-intro x (rims E x (n .0) (n .1) (sym (on-face x fs) ∙ m)), curve-intro x (curves N x (n .0) (n .1))) refl))
           ])
 
-      back : every at (cornersIn fs) ≡ true → (edgesOk stratum a b fs && neighboursOk stratum a b fs) ≡ true
+      back : every at (allCorners fs) ≡ true → (edgesOk stratum a b fs && neighboursOk stratum a b fs) ≡ true
       back h =
-          let pass : (x : ℕ) → x ≢ a → x ≢ b → On x → (rimOk stratum a b fs x && curveOk stratum a b fs x) ≡ true = λ x xa xb w. rw (ne-eqb x a xa, ne-eqb x b xb) at (every-mem at (cornersIn fs) h x (on-face x fs ∙ w)) in
+          let pass : (x : ℕ) → x ≢ a → x ≢ b → On x → (rimOk stratum a b fs x && curveOk stratum a b fs x) ≡ true = λ x xa xb w. rw (ne-eqb x a xa, ne-eqb x b xb) at (every-mem at (allCorners fs) h x (on-face x fs ∙ w)) in
           rw (
             edges-intro (λ x xa xb w. rim-elim x (and-fst (rimOk stratum a b fs x) (curveOk stratum a b fs x) (pass x xa xb w))),
             neighbours-ok (λ x xa xb w. curve-elim x (and-snd (rimOk stratum a b fs x) (curveOk stratum a b fs x) (pass x xa xb w))),

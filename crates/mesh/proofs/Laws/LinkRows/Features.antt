@@ -15,10 +15,10 @@ use Rattle.mesh.specs.Sort.{sort, unique}
 use Rattle.mesh.specs.inside.Rows.{leRow}
 use Rattle.mesh.specs.Complex.{mem, keep, Sub}
 use Rattle.mesh.specs.Tests.{every}
-use Rattle.mesh.specs.Element.{cornersOf}
+use Rattle.mesh.specs.Element.{cornersOf, allCorners}
 use Rattle.mesh.specs.Link.{sameSimplex, boundaryAbout}
 use Rattle.mesh.specs.Feature.{bitsOf, shared, featureOk}
-use Rattle.mesh.specs.inside.FeatureByMasks.{cornersIn, joined, outlives, rimOk, curveOk, featureByMasks}
+use Rattle.mesh.specs.inside.FeatureByMasks.{joined, outlives, rimOk, curveOk, featureByMasks}
 use Rattle.mesh.specs.inside.Group.{runs, sameFirst}
 use Rattle.mesh.specs.inside.LinkRows.{mark, twoWords, aloneFaces, rowsOfFaces, marked, vertexBy, featureRun}
 use Rattle.mesh.proofs.Laws.Complex.Sets.{split, clash, nope, same, or-cases, or-left, or-right, and-fst, and-snd, mem-here, mem-there, mem-nil, Sub-cons, within-intro, full}
@@ -242,8 +242,8 @@ module _ (stratum : ℕ → ℕ) (a b : ℕ) (ab : a ≢ b) (ts : List Tet) (F :
   at-vertex : (x m : ℕ) → x ≢ a → x ≢ b → List·Memᴰ (x ∷ x ∷ m ∷ []) l → test (x ∷ x ∷ m ∷ []) ≡ (rimOk stratum a b fs x && curveOk stratum a b fs x)
   at-vertex x m xa xb i = test-is x x m i ∙ rw (eq-eqb x x refl, ne-eqb x a xa, ne-eqb x b xb) (vertex-is x xa xb (x ∷ x ∷ m ∷ []) refl)
 
-  forth : every test l ≡ true → every pass (cornersIn fs) ≡ true
-  forth h = mem-every pass (cornersIn fs) (λ x i.
+  forth : every test l ≡ true → every pass (allCorners fs) ≡ true
+  forth h = mem-every pass (allCorners fs) (λ x i.
       elim (split (eqb x a)) [
         | inl p ↦ rw p refl
         | inr p ↦ elim (split (eqb x b)) [
@@ -255,7 +255,7 @@ module _ (stratum : ℕ → ℕ) (a b : ℕ) (ab : a ≢ b) (ts : List Tet) (F :
         ]
       ])
 
-  back : every pass (cornersIn fs) ≡ true → every test l ≡ true
+  back : every pass (allCorners fs) ≡ true → every test l ≡ true
   back h = every-intro test l (λ r i.
       let o = row-origin a b ts F r i in
       subst (λ (u : List ℕ). test u ≡ true) (sym (o .3)) (by (o .1) (o .0) (o .2) (subst (λ (u : List ℕ). List·Memᴰ u l) (o .3) i)))
@@ -268,8 +268,8 @@ module _ (stratum : ℕ → ℕ) (a b : ℕ) (ab : a ≢ b) (ts : List Tet) (F :
             | inr e ↦ elim (split (eqb x b)) [
               | inl q ↦ test-is x x (mark a b τ) i ∙ rw (eq-eqb x x refl, e, q) refl
               | inr q ↦
-                  let w : mem x (cornersIn fs) ≡ true = on-face x fs ∙ within-intro (x ∷ []) (p .simplex) (p .inside) in
-                  at-vertex x (mark a b τ) (eqb-false x a e) (eqb-false x b q) i ∙ (rw (e, q) at (every-mem pass (cornersIn fs) h x w))
+                  let w : mem x (allCorners fs) ≡ true = on-face x fs ∙ within-intro (x ∷ []) (p .simplex) (p .inside) in
+                  at-vertex x (mark a b τ) (eqb-false x a e) (eqb-false x b q) i ∙ (rw (e, q) at (every-mem pass (allCorners fs) h x w))
             ]
           ]
       by (x ∷ y ∷ []) τ p i = let k = rising-head x (y ∷ []) (p .rises) y (mem-here y []) in test-is x y (mark a b τ) i ∙ rw (ne-eqb x y (λ e. omega arith)) refl

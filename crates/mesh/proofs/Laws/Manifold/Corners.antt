@@ -18,8 +18,8 @@ use Rattle.mesh.specs.inside.Rows.{leRow, eqRow}
 use Rattle.mesh.specs.Complex.{keep}
 use Rattle.mesh.specs.Tests.{every}
 use Rattle.mesh.specs.Sets.{times}
-use Rattle.mesh.specs.Element.{triple, samePair, triples}
-use Rattle.mesh.specs.Manifold.{sidesOf, surfaceEdges, edgesTwice, surfaceLink, oneCycle, surfaceVertices}
+use Rattle.mesh.specs.Element.{triple, samePair, triples, allCorners}
+use Rattle.mesh.specs.Manifold.{sidesOf, surfaceEdges, edgesTwice, surfaceLink, oneCycle}
 use Rattle.mesh.proofs.Laws.Bools.{split, clash, and-intro, and-left, and-right}
 use Rattle.mesh.proofs.Laws.NumbersFrom.{every-numbers}
 use Rattle.mesh.proofs.Laws.Rows.{eqRow-sound}
@@ -207,14 +207,14 @@ module _ (q : List ℕ) where
 
 -- ---- all vertices
 
-every-corner : (p : List ℕ → Bool) (t : ℕ → Bool) → ((v j x y : ℕ) → p (v ∷ j ∷ x ∷ y ∷ []) ≡ t v) → (i : ℕ) (fs : List Triple) → every p (linkRows i fs) ≡ every t (surfaceVertices fs)
-unfolding surfaceVertices
+every-corner : (p : List ℕ → Bool) (t : ℕ → Bool) → ((v j x y : ℕ) → p (v ∷ j ∷ x ∷ y ∷ []) ≡ t v) → (i : ℕ) (fs : List Triple) → every p (linkRows i fs) ≡ every t (allCorners fs)
+unfolding allCorners
 every-corner p t h i [] = refl
 every-corner p t h i (f ∷ fs) = rw (h (f .a), h (f .b), h (f .c)) (ap (λ (b : Bool). t (f .a) && (t (f .b) && (t (f .c) && b))) (every-corner p t h (suc i) fs))
 
 -- every link is one cycle where every run of the sorted rows is one
 pub links-cycle : (s : List ℕ) (n : ℕ) → every cycle (runs (sameFirst 1) (sort leRow (map (linkRow s) (numbers 0 (3 * n)))))
-    ≡ every (λ v. oneCycle (surfaceLink v (triples n s))) (surfaceVertices (triples n s))
+    ≡ every (λ v. oneCycle (surfaceLink v (triples n s))) (allCorners (triples n s))
 links-cycle s n =
     let fs = triples n s in
     let rs = linkRows 0 fs in

@@ -13,11 +13,12 @@ use Rattle.mesh.specs.Words.{wordAt, zeroWords, numbers, flat}
 use Rattle.mesh.specs.Sort.{sort}
 use Rattle.mesh.specs.inside.Rows.{rows, leRow, sortedArea}
 use Rattle.mesh.specs.Tests.{every}
-use Rattle.mesh.specs.Element.{cornersOf, triples}
+use Rattle.mesh.specs.Element.{cornersOf, triples, allCorners}
 use Rattle.mesh.specs.inside.Group.{runs, sameFirst}
-use Rattle.mesh.specs.Manifold.{edgesTwice, surfaceLink, oneCycle, surfaceVertices, nonmanifold, surfaceFits, Tested, nonmanifoldIn}
+use Rattle.mesh.specs.Manifold.{edgesTwice, surfaceLink, oneCycle, nonmanifold, surfaceFits, Tested, nonmanifoldIn}
 use Rattle.mesh.specs.inside.Manifold.{edgeRow, linkRow, filled, two, cycle, linkPair, pairBelow, KeptBelow, LinkArea}
 use Rattle.mesh.proofs.Laws.Bools.{and-intro, and-left, and-right}
+use Rattle.mesh.proofs.Laws.Intake.Reads.{triples-front}
 use Rattle.mesh.proofs.Laws.Manifold.Fill.{fill-kept, filled-rows}
 use Rattle.mesh.proofs.Laws.Manifold.Kept.{every-sort}
 use Rattle.mesh.proofs.Laws.Manifold.Corners.{edges-twice, links-cycle, links-below}
@@ -66,33 +67,12 @@ unfolding triples flat
 triples-flat [] x = refl
 triples-flat (f ∷ fs) x = ap (λ (l : List Triple). f ∷ l) (triples-flat fs x)
 
--- a test of all corners is one of all words
-pub corners-words : (p : ℕ → Bool) (n : ℕ) (s : List ℕ) → 3 * n ≤ length s → every p (take (3 * n) s) ≡ every p (surfaceVertices (triples n s))
-unfolding triples surfaceVertices
-corners-words p zero s h = refl
-corners-words p (suc n) [] h = absurd (few 0 n h (omega arith))
-  where
-    few : (m n : ℕ) → 3 * suc n ≤ m → m < 3 → ⊥
-    few m n h k = omega arith
-corners-words p (suc n) (a ∷ []) h = absurd (few 1 n h (omega arith))
-  where
-    few : (m n : ℕ) → 3 * suc n ≤ m → m < 3 → ⊥
-    few m n h k = omega arith
-corners-words p (suc n) (a ∷ b ∷ []) h = absurd (few 2 n h (omega arith))
-  where
-    few : (m n : ℕ) → 3 * suc n ≤ m → m < 3 → ⊥
-    few m n h k = omega arith
-corners-words p (suc n) (a ∷ b ∷ c ∷ s) h =
-    let e : 3 * suc n ≡ suc (suc (suc (3 * n))) = omega arith in
-    ap (λ (u : ℕ). every p (take u (a ∷ b ∷ c ∷ s))) e
-    ∙ ap (λ (t : Bool). p a && (p b && (p c && t))) (corners-words p n s (omega arith))
-
 -- vertices below m, and m marks: there is room
-pub fits-below : (n m : ℕ) (s : List ℕ) → n ≤ 65536 → 27 * n ≤ length s → m + 15 * n ≤ length s → every (λ x. ltb x m) (surfaceVertices (triples n s)) ≡ true
+pub fits-below : (n m : ℕ) (s : List ℕ) → n ≤ 65536 → 27 * n ≤ length s → m + 15 * n ≤ length s → every (λ x. ltb x m) (allCorners (triples n s)) ≡ true
     → surfaceFits n s ≡ true
 fits-below n m s h k l b =
     sym (fits-test n s h k)
-    ∙ every-less (take (3 * n) s) (corners-words (λ x. ltb x m) n s (omega arith) ∙ b)
+    ∙ every-less (take (3 * n) s) (ap (every (λ x. ltb x m)) (sym (triples-front n s (omega arith))) ∙ b)
   where
     every-less : (xs : List ℕ) → every (λ x. ltb x m) xs ≡ true → every (λ x. ltb x (length s - 15 * n)) xs ≡ true
     every-less [] e = refl
@@ -173,7 +153,7 @@ module _ (n : ℕ) (s₀ : List ℕ) (few : n ≤ 65536) (room : 27 * n ≤ leng
             fresh = λ x. omega (arith, clear-zero (5 * (3 * n)) s₂ s₃ marks-room e₃ x);
           }
 
-      pub links-answer : every cycle (runs (sameFirst 1) (rows 4 (3 * n) (drop (3 * n) s₃))) ≡ every (λ v. oneCycle (surfaceLink v (triples n s₀))) (surfaceVertices (triples n s₀))
+      pub links-answer : every cycle (runs (sameFirst 1) (rows 4 (3 * n) (drop (3 * n) s₃))) ≡ every (λ v. oneCycle (surfaceLink v (triples n s₀))) (allCorners (triples n s₀))
       links-answer = ap (λ (l : List (List ℕ)). every cycle (runs (sameFirst 1) l)) rows-ready ∙ links-cycle s₀ n
 
       pub links-end : {s₄ : List ℕ} → KeptBelow (5 * (3 * n)) s₃ s₄ → KeptBelow (3 * n) s₀ s₄
@@ -185,7 +165,7 @@ pub manifold-no : (n : ℕ) (s : List ℕ) → edgesTwice (triples n s) ≡ fals
 unfolding nonmanifold
 manifold-no n s e = sym (rw e refl)
 
-pub manifold-yes : (n : ℕ) (s : List ℕ) (r : Bool) → edgesTwice (triples n s) ≡ true → r ≡ every (λ v. oneCycle (surfaceLink v (triples n s))) (surfaceVertices (triples n s)) → not r ≡ nonmanifold (triples n s)
+pub manifold-yes : (n : ℕ) (s : List ℕ) (r : Bool) → edgesTwice (triples n s) ≡ true → r ≡ every (λ v. oneCycle (surfaceLink v (triples n s))) (allCorners (triples n s)) → not r ≡ nonmanifold (triples n s)
 unfolding nonmanifold
 manifold-yes n s r e f = rw (e, f) refl
 

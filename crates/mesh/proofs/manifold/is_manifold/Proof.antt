@@ -5,7 +5,8 @@ use Prim.Native.Nat.{_*_}
 use borrow.Author.Tests.{not-true, not-false}
 use Rattle.mesh.specs.declared.element.Triple.{Triple}
 use Rattle.mesh.specs.Tests.{every}
-use Rattle.mesh.specs.Manifold.{oneCycle, surfaceLink, surfaceVertices}
+use Rattle.mesh.specs.Element.{allCorners}
+use Rattle.mesh.specs.Manifold.{oneCycle, surfaceLink}
 use Rattle.mesh.proofs.Laws.Manifold.Growth.{kept-both}
 use Rattle.mesh.proofs.Laws.Manifold.Whole.{triples-kept, manifold-no, manifold-yes, kept-fits}
 use borrow.Author.Needs.{needs}
@@ -32,7 +33,7 @@ returns-2 c =
     let a = (c .before .before .before .before .before .before .before .before .before .before .args) in
     let k = c .before .before .before .before .before .before .before .edges-twice .ensures .1 in (
       manifold-yes (a .n) (a .area .now) (c .before .before .links-cycle .result) (sym (c .before .before .before .before .before .before .before .edges-twice .ensures .0) ∙ not-false _ (c .before .before .before .before .if1 .left))
-          (c .before .before .links-cycle .ensures .0 ∙ ap (λ (fs : List Triple). every (λ v. oneCycle (surfaceLink v fs)) (surfaceVertices fs)) (triples-kept (a .n) k)),
+          (c .before .before .links-cycle .ensures .0 ∙ ap (λ (fs : List Triple). every (λ v. oneCycle (surfaceLink v fs)) (allCorners fs)) (triples-kept (a .n) k)),
       kept-both (3 * a .n) (a .area .now) (c .before .before .before .before .before .before .before .edges-twice .last .0) (c .before .before .links-cycle .last .0) k (c .before .before .links-cycle .ensures .1),
     )
 

@@ -12,14 +12,13 @@ use lib.Seq.{getD-append-add, length-take-le}
 use Rattle.mesh.specs.declared.element.Tet.{Tet}
 use Rattle.mesh.specs.Words.{wordAt, zeroWords}
 use Rattle.mesh.specs.Tests.{every, under}
-use Rattle.mesh.specs.Element.{tets, verticesOf}
+use Rattle.mesh.specs.Element.{tets, verticesOf, allVertices}
 use Rattle.mesh.specs.Intake.{wellNumbered}
 use Rattle.mesh.proofs.Laws.Bools.{and-left, and-right}
-use Rattle.mesh.proofs.Laws.Intake.Reads.{length-tets}
+use Rattle.mesh.proofs.Laws.Intake.Reads.{length-tets, elements-front}
 use Rattle.mesh.proofs.Laws.Boundary.Faces.{every-map}
 use Rattle.mesh.proofs.Laws.Link.Simplices.{every-mem, mem-every}
-use Rattle.repair.specs.Improve.{imageOf, allVertices, firstUses, placeOf}
-use Rattle.repair.specs.Step.{elementWords}
+use Rattle.repair.specs.Improve.{imageOf, firstUses, placeOf}
 use Rattle.repair.specs.inside.improve.Renumber.{EndArea, Unmet, Numbered, Renumbered, usedBy}
 use Rattle.repair.proofs.Laws.Improve.Uses.{place-below, first-mem}
 use Rattle.repair.proofs.Laws.Improve.Buffers.{elements-back}
@@ -27,30 +26,10 @@ use Rattle.repair.proofs.Laws.Finish.First.{first-few, first-same}
 
 -- ---- words
 
-pub words-all : (ts : List Tet) → elementWords ts ≡ allVertices ts
-unfolding elementWords allVertices
-words-all [] = refl
-words-all (t ∷ ts) = ap (λ (l : List ℕ). verticesOf t ++ l) (words-all ts)
-
-short-of : (m k : ℕ) → 4 * suc k ≤ m → m < 4 → ⊥
-short-of m k h l = omega arith
-
--- the vertices of the elements are the words
-pub all-words : (k : ℕ) (s : List ℕ) → 4 * k ≤ length s → allVertices (tets k s) ≡ take (4 * k) s
-unfolding tets allVertices
-all-words zero s h = refl
-all-words (suc k) [] h = absurd (short-of 0 k h (omega arith))
-all-words (suc k) (a ∷ []) h = absurd (short-of 1 k h (omega arith))
-all-words (suc k) (a ∷ b ∷ []) h = absurd (short-of 2 k h (omega arith))
-all-words (suc k) (a ∷ b ∷ c ∷ []) h = absurd (short-of 3 k h (omega arith))
-all-words (suc k) (a ∷ b ∷ c ∷ d ∷ s) h =
-    let e : suc (suc (suc (suc (4 * k)))) ≡ 4 * suc k = omega arith in
-    ap (λ (l : List ℕ). a ∷ b ∷ c ∷ d ∷ l) (all-words k s (omega arith)) ∙ ap (λ (u : ℕ). take u (a ∷ b ∷ c ∷ d ∷ s)) e
-
 -- the elements by their words
 pub elements-from : (k : ℕ) (s : List ℕ) (ts : List Tet) → length ts ≡ k → take (4 * k) s ≡ allVertices ts → tets k s ≡ ts
 elements-from k s ts e h =
-    ap₂ tets (sym e) (sym (take-append-drop (4 * k) s) ∙ ap (λ (l : List ℕ). l ++ drop (4 * k) s) (h ∙ sym (words-all ts)))
+    ap₂ tets (sym e) (sym (take-append-drop (4 * k) s) ∙ ap (λ (l : List ℕ). l ++ drop (4 * k) s) h)
     ∙ elements-back ts (drop (4 * k) s)
 
 -- ---- new numbers
@@ -122,7 +101,7 @@ module _ {k nv : ℕ} {s₀ : List ℕ} (A : EndArea k nv s₀) (z : List ℕ) (
 
   -- the words that are numbered
   vertices : take (4 * k) cleared ≡ allVertices (tets k s₀)
-  vertices = front ∙ sym (all-words k s₀ (omega (arith, A .long)))
+  vertices = front ∙ sym (elements-front k s₀ (omega (arith, A .long)))
 
   pub clear-unmet : Unmet (4 * k) nv (112 * k + nv) (putMid (4 * k) (4 * k + nv - 4 * k) s₀ z)
   unfolding cleared

@@ -16,18 +16,16 @@ use Rattle.mesh.specs.declared.boundary.Outcome.{Outcome}
 use Rattle.mesh.specs.declared.boundary.Outcome.the-variants.{Surface, Refused}
 use Rattle.mesh.specs.Words.{zeroWords, flat}
 use Rattle.mesh.specs.Tests.{every}
-use Rattle.mesh.specs.Element.{tets, cornersOf, triples}
+use Rattle.mesh.specs.Element.{tets, cornersOf, triples, allCorners, allVertices}
 use Rattle.mesh.specs.Boundary.{boundaryNumber, boundaryOf}
 use Rattle.mesh.specs.Surface.{triplesOf, answer, answerOf, surfaceWords}
 use Rattle.mesh.specs.inside.Surface.{Filled, areaAfter, boundaryIn}
-use Rattle.mesh.specs.Manifold.{nonmanifold, surfaceVertices, surfaceFits, Tested, nonmanifoldIn}
+use Rattle.mesh.specs.Manifold.{nonmanifold, surfaceFits, Tested, nonmanifoldIn}
 use Rattle.mesh.proofs.Laws.Complex.Sets.{split}
 use Rattle.mesh.proofs.Laws.Boundary.Faces.{tets-kept}
 use Rattle.mesh.proofs.Laws.Boundary.Whole.{words-count, triples-few, area-front, area-behind, area-long, filled-is}
 use Rattle.mesh.proofs.Laws.Boundary.Called.{area-fits}
 use Rattle.mesh.proofs.Laws.Manifold.Whole.{triples-flat, fits-below}
-use Rattle.repair.specs.Improve.{allVertices}
-use Rattle.repair.specs.Step.{tripleWords}
 use Rattle.repair.specs.inside.improve.Renumber.{endOf, testedOutcome, testedPart, Ended}
 use Rattle.repair.proofs.Laws.Finish.Surface.{boundary-every, words-flat}
 
@@ -194,7 +192,7 @@ module _ (k nv : ℕ) (s₀ : List ℕ) (few : k ≤ 16384) (room : 112 * k + nv
     unfolding ts
     fits =
         fits-below c nv (surfaceWords ts ++ zs) (omega (arith, few-triples)) (omega (arith, few-triples, rest-long)) (omega (arith, few-triples, rest-long))
-        (ap (λ (l : List Triple). every (λ x. ltb x nv) (surfaceVertices l)) triples-are ∙ boundary-every (λ x. ltb x nv) ts below)
+        (ap (λ (l : List Triple). every (λ x. ltb x nv) (allCorners l)) triples-are ∙ boundary-every (λ x. ltb x nv) ts below)
 
     tested-is : nonmanifoldIn c (surfaceWords ts ++ zs)
         ≡ record { answer = nonmanifold (boundaryOf ts); area = surfaceWords ts ++ zeroWords (length (surfaceWords ts ++ zs) - 3 * c) }
@@ -253,7 +251,7 @@ module _ (k nv : ℕ) (s₀ : List ℕ) (few : k ≤ 16384) (room : 112 * k + nv
           ∙ tested-answer ts (length (boundaryOf ts))
           ∙ ap (λ (i : ℕ). answer i (length (boundaryOf ts))) (sym (good-end ts q))
 
-      surface-good : take (3 * length (boundaryOf ts)) (drop (4 * k) s) ≡ tripleWords (boundaryOf ts)
+      surface-good : take (3 * length (boundaryOf ts)) (drop (4 * k) s) ≡ allCorners (boundaryOf ts)
       surface-good =
           let post = postOf (4 * k) (112 * k + nv - 4 * k) given in
           ap (λ (l : List ℕ). take (3 * length (boundaryOf ts)) (drop (4 * k) l)) put-is

@@ -7,24 +7,21 @@ use Rattle.mesh.specs.declared.element.Tet.{Tet}
 use Rattle.mesh.specs.declared.element.Triple.{Triple}
 use Rattle.mesh.specs.Words.{flat}
 use Rattle.mesh.specs.Tests.{every}
-use Rattle.mesh.specs.Element.{cornersOf}
+use Rattle.mesh.specs.Element.{cornersOf, allCorners, allVertices}
 use Rattle.mesh.specs.Boundary.{allFaces, boundaryOf, singles, leTriple}
-use Rattle.mesh.specs.Manifold.{surfaceVertices}
 use Rattle.mesh.proofs.Laws.Bools.{and-left, and-right}
-use Rattle.repair.specs.Improve.{allVertices}
-use Rattle.repair.specs.Step.{tripleWords}
 use Rattle.repair.proofs.Laws.Improve.Edges.{every-keep}
 use Rattle.mesh.proofs.Laws.Boundary.Same.{sort-every}
 
 -- ---- vertices of the boundary
 
-corners-every : (q : ℕ → Bool) (fs : List Triple) → every (λ f. every q (cornersOf f)) fs ≡ true → every q (surfaceVertices fs) ≡ true
-unfolding surfaceVertices
+corners-every : (q : ℕ → Bool) (fs : List Triple) → every (λ f. every q (cornersOf f)) fs ≡ true → every q (allCorners fs) ≡ true
+unfolding allCorners
 corners-every q [] h = refl
 corners-every q (f ∷ fs) h =
     three (and-left (every q (cornersOf f)) (every (λ g. every q (cornersOf g)) fs) h) (corners-every q fs (and-right (every q (cornersOf f)) (every (λ g. every q (cornersOf g)) fs) h))
   where
-    three : every q (cornersOf f) ≡ true → every q (surfaceVertices fs) ≡ true → every q (f .a ∷ f .b ∷ f .c ∷ surfaceVertices fs) ≡ true
+    three : every q (cornersOf f) ≡ true → every q (allCorners fs) ≡ true → every q (f .a ∷ f .b ∷ f .c ∷ allCorners fs) ≡ true
     three e g =
         let i = and-right (q (f .a)) (every q (f .b ∷ f .c ∷ [])) e in
         let j = and-right (q (f .b)) (every q (f .c ∷ [])) i in
@@ -42,7 +39,7 @@ faces-every q (t ∷ ts) h =
     (faces-every q ts (and-right (q (t .d)) (every q vs) k))
 
 -- the boundary has vertices of the elements only
-pub boundary-every : (q : ℕ → Bool) (ts : List Tet) → every q (allVertices ts) ≡ true → every q (surfaceVertices (boundaryOf ts)) ≡ true
+pub boundary-every : (q : ℕ → Bool) (ts : List Tet) → every q (allVertices ts) ≡ true → every q (allCorners (boundaryOf ts)) ≡ true
 unfolding boundaryOf singles
 boundary-every q ts h =
     corners-every q (boundaryOf ts)
@@ -51,7 +48,7 @@ boundary-every q ts h =
 
 -- ---- words of the boundary
 
-pub words-flat : (fs : List Triple) → flat (map cornersOf fs) ≡ tripleWords fs
-unfolding flat tripleWords
+pub words-flat : (fs : List Triple) → flat (map cornersOf fs) ≡ allCorners fs
+unfolding flat allCorners
 words-flat [] = refl
 words-flat (f ∷ fs) = ap (λ (l : List ℕ). cornersOf f ++ l) (words-flat fs)

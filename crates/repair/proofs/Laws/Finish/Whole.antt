@@ -16,21 +16,21 @@ use Rattle.mesh.specs.declared.boundary.Outcome.{Outcome}
 use Rattle.mesh.specs.declared.boundary.Outcome.the-variants.{Surface, Refused}
 use Rattle.mesh.specs.Words.{wordAt, pointAt, pointsOf, zeroPoint}
 use Rattle.mesh.specs.Tests.{every}
-use Rattle.mesh.specs.Element.{tets}
+use Rattle.mesh.specs.Element.{tets, allCorners, allVertices}
 use Rattle.mesh.specs.Boundary.{boundaryOf}
 use Rattle.mesh.specs.Surface.{answer}
 use Rattle.mesh.specs.inside.Intake.{pointIn}
-use Rattle.mesh.proofs.Laws.Intake.Reads.{length-tets, points-at}
+use Rattle.mesh.proofs.Laws.Intake.Reads.{length-tets, elements-front, points-at}
 use Rattle.mesh.proofs.Laws.Boundary.Faces.{map-known}
 use Rattle.mesh.proofs.Laws.Boundary.Whole.{taken-zero, refused-is}
 use Rattle.repair.specs.declared.answer.Answer.{Answer}
 use Rattle.repair.specs.declared.answer.Answer.the-variants as answers
 use Rattle.repair.specs.Mesh.{Mesh}
-use Rattle.repair.specs.Improve.{imageOf, allVertices, placeOf, renumbered, endNumber}
-use Rattle.repair.specs.Step.{State, meshOf, floatsOf, elementWords, tripleWords, over, sizesOf, committed}
+use Rattle.repair.specs.Improve.{imageOf, placeOf, renumbered, endNumber}
+use Rattle.repair.specs.Step.{State, meshOf, floatsOf, over, sizesOf, committed}
 use Rattle.repair.specs.inside.improve.Renumber.{improveEnd, EndArea, EndBuffers, usedBy, usedAt, Renumbered, endOf, Ended, listed, movedPoints, movedMasks, MeshRoom, movedIn}
 use Rattle.repair.proofs.Laws.Finish.Ended.{end-few}
-use Rattle.repair.proofs.Laws.Finish.Elements.{words-all, all-words, used-few, used-below, images-below}
+use Rattle.repair.proofs.Laws.Finish.Elements.{used-few, used-below, images-below}
 
 -- ---- `improveEnd` by its number
 
@@ -87,19 +87,19 @@ module _ {k nv : ℕ} {a₀ a₁ : List ℕ} {n : ℕ} (A : EndArea k nv a₀) (
       unfolding new newOf
       end₁ = ap endOf (R .elements) ∙ zero-end
 
-      words-are : take (4 * k) a₂ ≡ elementWords new
+      words-are : take (4 * k) a₂ ≡ allVertices new
       unfolding new newOf
-      words-are = E .front end₁ ∙ sym (all-words k a₁ (omega (arith, A .long, long₁))) ∙ ap allVertices (R .elements) ∙ sym (words-all new)
+      words-are = E .front end₁ ∙ sym (elements-front k a₁ (omega (arith, A .long, long₁))) ∙ ap allVertices (R .elements)
 
       few-triples : c ≤ 4 * k
       unfolding new newOf
       few-triples = omega (arith, end-few k a₁ end₁, count-is, ap (λ (l : List Tet). length (boundaryOf l)) (R .elements))
 
-      triples-are : take (3 * c) (drop (4 * k) a₂) ≡ tripleWords (boundaryOf new)
+      triples-are : take (3 * c) (drop (4 * k) a₂) ≡ allCorners (boundaryOf new)
       unfolding new newOf
       triples-are =
           ap (λ (i : ℕ). take (3 * i) (drop (4 * k) a₂)) (count-is ∙ ap (λ (l : List Tet). length (boundaryOf l)) (sym (R .elements)))
-          ∙ E .surface end₁ ∙ ap (λ (l : List Tet). tripleWords (boundaryOf l)) (R .elements)
+          ∙ E .surface end₁ ∙ ap (λ (l : List Tet). allCorners (boundaryOf l)) (R .elements)
 
       -- the mesh that stands in the area fits into the buffers
       pub mesh-room : (z : Sizes) {p q m e t f : ℕ} → z .vertices ≡ nv → EndBuffers z k p q m e t f

@@ -15,7 +15,7 @@ use Rattle.mesh.specs.declared.element.Triple.{Triple}
 use Rattle.mesh.specs.declared.boundary.Outcome.{Outcome}
 use Rattle.mesh.specs.declared.boundary.Outcome.the-variants.{Surface, Refused}
 use Rattle.mesh.specs.Words.{zeroWords}
-use Rattle.mesh.specs.Element.{tets, triples}
+use Rattle.mesh.specs.Element.{tets, triples, allCorners}
 use Rattle.mesh.specs.Boundary.{boundaryNumber, boundaryOf}
 use Rattle.mesh.specs.Surface.{triplesOf, answer, answerOf, surfaceWords}
 use Rattle.mesh.specs.inside.Surface.{areaFits, Filled, areaAfter, boundaryIn}
@@ -25,7 +25,6 @@ use Rattle.mesh.proofs.Laws.Boundary.Faces.{tets-kept}
 use Rattle.mesh.proofs.Laws.Boundary.Whole.{words-count, triples-few, area-front, area-behind, area-long, filled-is}
 use Rattle.mesh.proofs.Laws.Manifold.Whole.{triples-flat}
 use Rattle.repair.specs.Flip.{sortedKeys, sameTriples, endNumber}
-use Rattle.repair.specs.Step.{tripleWords}
 use Rattle.repair.specs.inside.Layout.{Same}
 use Rattle.repair.specs.inside.flip.Finish.{keyedOutcome, SurfaceEnded}
 use Rattle.repair.proofs.Laws.Finish.Surface.{words-flat}
@@ -139,7 +138,7 @@ module _ (k g : ℕ) (s₀ f : List ℕ) (fit : areaFits k (36 * k) ≡ true) (r
           ∙ keyed-answer (sameTriples (sortedKeys (boundaryOf ts)) (sortedKeys (triples g f))) c
           ∙ ap (λ (i : ℕ). answer i c) (sym (good-end (triples g f) ts q))
 
-      surface-good : take (3 * c) (drop (4 * k) s) ≡ tripleWords (boundaryOf ts)
+      surface-good : take (3 * c) (drop (4 * k) s) ≡ allCorners (boundaryOf ts)
       surface-good =
           let n = few in
           part-same 0 s s₁ (4 * k) (3 * c) (hs .long) (λ j a b. hs .before j (omega arith))

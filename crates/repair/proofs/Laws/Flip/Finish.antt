@@ -12,19 +12,18 @@ use Rattle.mesh.specs.declared.element.Tet.{Tet}
 use Rattle.mesh.specs.declared.element.Triple.{Triple}
 use Rattle.mesh.specs.declared.boundary.Outcome.{Outcome}
 use Rattle.mesh.specs.declared.boundary.Outcome.the-variants.{Surface, Refused}
-use Rattle.mesh.specs.Element.{tets, triples}
+use Rattle.mesh.specs.Element.{tets, triples, allCorners, allVertices}
 use Rattle.mesh.specs.Boundary.{boundaryNumber, boundaryOf}
 use Rattle.mesh.proofs.Laws.Complex.Sets.{split}
 use Rattle.repair.specs.declared.answer.Answer.{Answer}
 use Rattle.repair.specs.declared.answer.Answer.the-variants as answers
 use Rattle.repair.specs.Flip.{sortedKeys, sameTriples, endNumber}
-use Rattle.repair.specs.Step.{elementWords, tripleWords, over}
+use Rattle.repair.specs.Step.{over}
 use Rattle.repair.specs.inside.flip.Finish.{SurfaceEnded, EndRoom, flipEnd}
-use Rattle.repair.proofs.Laws.Site.Pass.{elements-front}
 use Rattle.repair.proofs.Laws.Flip.Keys.{length-triples}
 use Rattle.repair.proofs.Laws.Flip.Surface.{same-many, sorted-many}
 use Rattle.repair.proofs.Laws.Flip.Ended.{good-end, bad-end}
-use Rattle.mesh.proofs.Laws.Intake.Reads.{length-tets}
+use Rattle.mesh.proofs.Laws.Intake.Reads.{length-tets, elements-front}
 use Rattle.mesh.proofs.Laws.Boundary.Whole.{refused-is, taken-zero}
 
 -- a surface with the keys of those given has as many triples
@@ -61,8 +60,8 @@ module _ {k g : ℕ} (e f s₀ : List ℕ) {s : List ℕ} {r : Outcome} (room : 
     flip-done count nv e′ f′ he hf =
         let b = room .area in
         let z : eqb (endNumber (triples g f) (tets k s₀)) 0 ≡ true = eq-eqb (endNumber (triples g f) (tets k s₀)) 0 zero-end in
-        let p : e′ ≡ over (elementWords (tets k s₀)) e = he ∙ ap (λ (u : List ℕ). over u e) (E .front zero-end ∙ sym (elements-front k s₀ (omega arith))) in
-        let q : f′ ≡ over (tripleWords (boundaryOf (tets k s₀))) f =
+        let p : e′ ≡ over (allVertices (tets k s₀)) e = he ∙ ap (λ (u : List ℕ). over u e) (E .front zero-end ∙ sym (elements-front k s₀ (omega arith))) in
+        let q : f′ ≡ over (allCorners (boundaryOf (tets k s₀))) f =
         hf ∙ ap (λ (u : List ℕ). over u f) (ap (λ (n : ℕ). take (3 * n) (drop (4 * k) s)) count-is ∙ E .surface zero-end) in
         let n : k ≡ length (tets k s₀) = sym (length-tets k s₀) in
         (λ i. (answers.Done count (record { vertices = nv; elements = n i; triples = count-is i }), p i, q i)) ∙ sym (rw z refl)

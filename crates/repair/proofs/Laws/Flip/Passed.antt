@@ -12,7 +12,7 @@ use Rattle.geometry.specs.declared.bounds.Options.{Options}
 use Rattle.mesh.specs.declared.element.Triple.{Triple}
 use Rattle.mesh.specs.declared.element.Tet.{Tet}
 use Rattle.mesh.specs.Words.{zeroWords, pointsOf}
-use Rattle.mesh.specs.Element.{triples}
+use Rattle.mesh.specs.Element.{triples, allCorners, allVertices}
 use Rattle.mesh.specs.Boundary.{boundaryOf}
 use Rattle.mesh.specs.Intake.{intake}
 use Rattle.mesh.proofs.Laws.Complex.Sets.{split}
@@ -21,7 +21,7 @@ use Rattle.repair.specs.declared.answer.Answer.{Answer}
 use Rattle.repair.specs.declared.answer.Answer.the-variants.{Done}
 use Rattle.repair.specs.Mesh.{Mesh, made, refused}
 use Rattle.repair.specs.Flip as def
-use Rattle.repair.specs.Step.{State, Call, Pass, sizesAfter, meshOf, floatsOf, elementWords, tripleWords, over, committed, resultOf, finish}
+use Rattle.repair.specs.Step.{State, Call, Pass, sizesAfter, meshOf, floatsOf, over, committed, resultOf, finish}
 use Rattle.repair.specs.inside.improve.Fitting.{Fitting}
 use Rattle.repair.specs.inside.flip.Finish.{flipEnd}
 use Rattle.repair.specs.inside.flip.Fitting.{FlipFitting, flipLast, flipWhole}
@@ -72,7 +72,7 @@ module _ (o : Options) (s : State) (work : List ℕ) (floats : ℕ) (fit : Fitti
   floats-same l h = over-is (floatsOf (pointsOf (s .sizes .vertices) l)) l l (3 * s .sizes .vertices) h (floats-front (s .sizes .vertices) l h) refl
 
   done-is : (count : ℕ) (ts : List Tet)
-      → placed s (Done count (record { vertices = s .sizes .vertices; elements = length ts; triples = length (boundaryOf ts) })) (over (elementWords ts) (s .elements)) (over (tripleWords (boundaryOf ts)) (s .surface))
+      → placed s (Done count (record { vertices = s .sizes .vertices; elements = length ts; triples = length (boundaryOf ts) })) (over (allVertices ts) (s .elements)) (over (allCorners (boundaryOf ts)) (s .surface))
       ≡ finish s (made count (with-elements ts))
   unfolding committed with-elements
   done-is count ts =
@@ -86,8 +86,8 @@ module _ (o : Options) (s : State) (work : List ℕ) (floats : ℕ) (fit : Fitti
           parameters = p i;
           points = q i;
           masks = m i;
-          elements = over (elementWords ts) (s .elements);
-          surface = over (tripleWords (boundaryOf ts)) (s .surface);
+          elements = over (allVertices ts) (s .elements);
+          surface = over (allCorners (boundaryOf ts)) (s .surface);
           sizes = record { vertices = n i; elements = length ts; triples = length (boundaryOf ts) };
         },
       )

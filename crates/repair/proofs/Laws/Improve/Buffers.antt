@@ -12,14 +12,14 @@ use Rattle.mesh.specs.declared.element.Tet.{Tet}
 use Rattle.mesh.specs.declared.element.Triple.{Triple}
 use Rattle.mesh.specs.Words.{pointsOf}
 use Rattle.mesh.specs.Complex.{alternating}
-use Rattle.mesh.specs.Element.{tets, verticesOf, keyOf, triples}
+use Rattle.mesh.specs.Element.{tets, verticesOf, keyOf, triples, allCorners, allVertices}
 use Rattle.mesh.specs.Boundary.{allFaces, withKey, OneOrTwo}
 use Rattle.mesh.specs.declared.intake.Lengths.{Lengths}
 use Rattle.mesh.specs.Tests.{every}
 use Rattle.mesh.specs.Intake.{wellNumbered, allDifferent, intake}
 use Rattle.mesh.specs.Measure.{determinantOf, scoreOf}
 use Rattle.repair.specs.Mesh.{Mesh}
-use Rattle.repair.specs.Step.{State, Call, meshOf, floatsOf, elementWords, tripleWords, committed, given}
+use Rattle.repair.specs.Step.{State, Call, meshOf, floatsOf, committed, given}
 use Rattle.repair.specs.Wholeness.{Exact, Whole}
 use Rattle.repair.proofs.Laws.Improve.Scores.{Floor}
 use Rattle.repair.proofs.Laws.Improve.Keeps.{Sound, Keeps, floorUnits}
@@ -33,13 +33,13 @@ unfolding pointsOf floatsOf
 points-back [] rest = refl
 points-back (p ∷ ps) rest = ap (λ l. p ∷ l) (points-back ps rest)
 
-pub elements-back : (ts : List Tet) (rest : List ℕ) → tets (length ts) (elementWords ts ++ rest) ≡ ts
-unfolding tets elementWords
+pub elements-back : (ts : List Tet) (rest : List ℕ) → tets (length ts) (allVertices ts ++ rest) ≡ ts
+unfolding tets allVertices
 elements-back [] rest = refl
 elements-back (t ∷ ts) rest = ap (λ l. t ∷ l) (elements-back ts rest)
 
-pub triples-back : (fs : List Triple) (rest : List ℕ) → triples (length fs) (tripleWords fs ++ rest) ≡ fs
-unfolding triples tripleWords
+pub triples-back : (fs : List Triple) (rest : List ℕ) → triples (length fs) (allCorners fs ++ rest) ≡ fs
+unfolding triples allCorners
 triples-back [] rest = refl
 triples-back (f ∷ fs) rest = ap (λ l. f ∷ l) (triples-back fs rest)
 
@@ -55,11 +55,11 @@ committed-points n s = points-back (n .points) (drop (length (floatsOf (n .point
 
 pub committed-elements : (n : Mesh) (s : State) → meshOf (committed n s) .elements ≡ n .elements
 unfolding meshOf committed
-committed-elements n s = elements-back (n .elements) (drop (length (elementWords (n .elements))) (s .elements))
+committed-elements n s = elements-back (n .elements) (drop (length (allVertices (n .elements))) (s .elements))
 
 pub committed-surface : (n : Mesh) (s : State) → meshOf (committed n s) .surface ≡ n .surface
 unfolding meshOf committed
-committed-surface n s = triples-back (n .surface) (drop (length (tripleWords (n .surface))) (s .surface))
+committed-surface n s = triples-back (n .surface) (drop (length (allCorners (n .surface))) (s .surface))
 
 -- as many points as the sizes say
 pub mesh-points : (s : State) → length (meshOf s .points) ≡ s .sizes .vertices

@@ -14,10 +14,10 @@ use Rattle.mesh.specs.declared.element.Tet.{Tet}
 use Rattle.mesh.specs.Words.{pointAt, zeroPoint}
 use Rattle.mesh.specs.Complex.{mem, within}
 use Rattle.mesh.specs.inside.Moves.{Renumbers, renumber, Step, renumbers}
-use Rattle.mesh.specs.Element.{verticesOf}
+use Rattle.mesh.specs.Element.{verticesOf, allVertices}
 use Rattle.mesh.proofs.Laws.Complex.Sets.{split, mem-here, mem-there, mem-cases, mem-nil, within-elim, keep-mem}
 use Rattle.mesh.proofs.Laws.Star.Chains.{mem-left, mem-right}
-use Rattle.repair.specs.Improve.{imageOf, allVertices, firstUses, placeOf}
+use Rattle.repair.specs.Improve.{imageOf, firstUses, placeOf}
 
 -- ---- places
 

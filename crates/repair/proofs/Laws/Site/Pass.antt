@@ -20,11 +20,11 @@ use Rattle.mesh.specs.declared.intake.Settings.{Settings}
 use Rattle.mesh.specs.declared.star.Index.{Index}
 use Rattle.mesh.specs.Words.{pointsOf, zeroWords}
 use Rattle.mesh.specs.Tests.{every}
-use Rattle.mesh.specs.Element.{tets, triples}
+use Rattle.mesh.specs.Element.{tets, triples, allCorners, allVertices}
 use Rattle.mesh.specs.Group.{groups}
 use Rattle.mesh.specs.Intake.{wellNumbered, givenOf, intake}
 use Rattle.mesh.specs.Measure.{measure, lowestOf}
-use Rattle.mesh.proofs.Laws.Intake.Reads.{length-tets, length-points}
+use Rattle.mesh.proofs.Laws.Intake.Reads.{length-tets, length-points, elements-front, triples-front}
 use Rattle.mesh.proofs.Laws.Intake.Table.{zeros-again}
 use Rattle.repair.specs.declared.answer.Answer.{Answer}
 use Rattle.repair.specs.declared.answer.Answer.the-variants.{Done, Refused}
@@ -32,7 +32,7 @@ use Rattle.repair.specs.Mesh.{Mesh, made, refused}
 use Rattle.repair.specs.Smooth as Smooth
 use Rattle.repair.specs.Smooth.{aboutGroup, bestFor, taken, smoothGroup, smoothGroups}
 use Rattle.repair.specs.Step as Step
-use Rattle.repair.specs.Step.{Call, Pass, held, callOf, meshOf, floatsOf, elementWords, tripleWords, over, committed, given, lengthsOf, resultOf, step}
+use Rattle.repair.specs.Step.{Call, Pass, held, callOf, meshOf, floatsOf, over, committed, given, lengthsOf, resultOf, step}
 use Rattle.repair.specs.inside.smooth.Site.{stateOf, Turned, meshRead, meshFor}
 use Rattle.repair.proofs.Laws.Flip.Keys.{length-triples}
 use Rattle.repair.proofs.Laws.Improve.Intake.{Passed, intake-passed}
@@ -49,27 +49,6 @@ floats-front (suc n) (a ∷ b ∷ []) h = absurd (omega (arith, h))
 floats-front (suc n) (a ∷ b ∷ c ∷ s) h =
     let e : 3 * suc n ≡ suc (suc (suc (3 * n))) = omega arith in
     ap (λ (l : List Float). a ∷ b ∷ c ∷ l) (floats-front n s (omega (arith, h))) ∙ sym (ap (λ k. take k (a ∷ b ∷ c ∷ s)) e)
-
-pub elements-front : (n : ℕ) (s : List ℕ) → 4 * n ≤ length s → elementWords (tets n s) ≡ take (4 * n) s
-unfolding tets elementWords
-elements-front zero s h = refl
-elements-front (suc n) [] h = absurd (omega (arith, h))
-elements-front (suc n) (a ∷ []) h = absurd (omega (arith, h))
-elements-front (suc n) (a ∷ b ∷ []) h = absurd (omega (arith, h))
-elements-front (suc n) (a ∷ b ∷ c ∷ []) h = absurd (omega (arith, h))
-elements-front (suc n) (a ∷ b ∷ c ∷ d ∷ s) h =
-    let e : 4 * suc n ≡ suc (suc (suc (suc (4 * n)))) = omega arith in
-    ap (λ (l : List ℕ). a ∷ b ∷ c ∷ d ∷ l) (elements-front n s (omega (arith, h))) ∙ sym (ap (λ k. take k (a ∷ b ∷ c ∷ d ∷ s)) e)
-
-triples-front : (n : ℕ) (s : List ℕ) → 3 * n ≤ length s → tripleWords (triples n s) ≡ take (3 * n) s
-unfolding triples tripleWords
-triples-front zero s h = refl
-triples-front (suc n) [] h = absurd (omega (arith, h))
-triples-front (suc n) (a ∷ []) h = absurd (omega (arith, h))
-triples-front (suc n) (a ∷ b ∷ []) h = absurd (omega (arith, h))
-triples-front (suc n) (a ∷ b ∷ c ∷ s) h =
-    let e : 3 * suc n ≡ suc (suc (suc (3 * n))) = omega arith in
-    ap (λ (l : List ℕ). a ∷ b ∷ c ∷ l) (triples-front n s (omega (arith, h))) ∙ sym (ap (λ k. take k (a ∷ b ∷ c ∷ s)) e)
 
 -- a front put over a buffer that is the same behind it
 pub over-is : {A : Type 0} (front old new : List A) (k : ℕ) → k ≤ length new → front ≡ take k new → drop k new ≡ drop k old → over front old ≡ new
@@ -203,8 +182,8 @@ module _ (s : Settings) (fields : List Field) (R : Option (List ℕ)) (P Q : Lis
             let c = over-is (take (s .sizes .vertices) masks) masks masks (s .sizes .vertices) (f .masks) refl refl in
             let e₁ : 4 * s .sizes .elements ≤ length els = omega (arith, f .slots) in
             let e₂ : 3 * s .sizes .triples ≤ length surface = omega (arith, f .triples, f .surface) in
-            let d = over-is (elementWords (tets (s .sizes .elements) els)) els els (4 * s .sizes .elements) e₁ (elements-front (s .sizes .elements) els e₁) refl in
-            let g = over-is (tripleWords (triples (s .sizes .triples) surface)) surface surface (3 * s .sizes .triples) e₂ (triples-front (s .sizes .triples) surface e₂) refl in
+            let d = over-is (allVertices (tets (s .sizes .elements) els)) els els (4 * s .sizes .elements) e₁ (elements-front (s .sizes .elements) els e₁) refl in
+            let g = over-is (allCorners (triples (s .sizes .triples) surface)) surface surface (3 * s .sizes .triples) e₂ (triples-front (s .sizes .triples) surface e₂) refl in
             λ j. record { parameters = a j; points = b j; masks = c j; elements = d j; surface = g j; sizes = sizes-are j }
 
         pub pass-done : _≡_ {A = Answer × Step.State} (Done moved (s .sizes), buffers P′ Q′) (step call (buffers P Q))

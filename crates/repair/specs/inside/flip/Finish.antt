@@ -9,12 +9,12 @@ use Rattle.mesh.specs.declared.element.Tet.{Tet}
 use Rattle.mesh.specs.declared.element.Triple.{Triple}
 use Rattle.mesh.specs.declared.boundary.Outcome.{Outcome}
 use Rattle.mesh.specs.declared.boundary.Outcome.the-variants.{Surface, Refused}
-use Rattle.mesh.specs.Element.{tets, triples}
+use Rattle.mesh.specs.Element.{tets, triples, allCorners, allVertices}
 use Rattle.mesh.specs.Boundary.{boundaryOf}
 use Rattle.mesh.specs.Surface.{answer}
 use Rattle.mesh.specs.inside.Surface.{areaFits}
 use Rattle.repair.specs.Flip.{sortedKeys, sameTriples, endNumber}
-use Rattle.repair.specs.Step.{elementWords, tripleWords, over}
+use Rattle.repair.specs.Step.{over}
 use Rattle.repair.specs.declared.answer.Answer.{Answer}
 use Rattle.repair.specs.declared.answer.Answer.the-variants as answers
 
@@ -27,7 +27,7 @@ keyedOutcome k g (Refused number) s f = Refused number
 pub record SurfaceEnded (k g : ℕ) (f s₀ s : List ℕ) (r : Outcome) : Type 0 where
   pub answer : r ≡ answer (endNumber (triples g f) (tets k s₀)) (length (boundaryOf (tets k s₀)))
   pub front : endNumber (triples g f) (tets k s₀) ≡ 0 → take (4 * k) s ≡ take (4 * k) s₀
-  pub surface : endNumber (triples g f) (tets k s₀) ≡ 0 → take (3 * length (boundaryOf (tets k s₀))) (drop (4 * k) s) ≡ tripleWords (boundaryOf (tets k s₀))
+  pub surface : endNumber (triples g f) (tets k s₀) ≡ 0 → take (3 * length (boundaryOf (tets k s₀))) (drop (4 * k) s) ≡ allCorners (boundaryOf (tets k s₀))
 
 -- room for the end with k elements and g triples given, in buffers of e and f words and an area of m words
 pub record EndRoom (k g e f m : ℕ) : Type 0 where
@@ -42,5 +42,5 @@ pub record EndRoom (k g e f m : ℕ) : Type 0 where
 unfoldable pub flipEnd : ℕ → ℕ → List Triple → List Tet → List ℕ → List ℕ → Answer × List ℕ × List ℕ
 flipEnd count nv fs ts es ss =
     cond (eqb (endNumber fs ts) 0)
-    (answers.Done count (record { vertices = nv; elements = length ts; triples = length (boundaryOf ts) }), over (elementWords ts) es, over (tripleWords (boundaryOf ts)) ss)
+    (answers.Done count (record { vertices = nv; elements = length ts; triples = length (boundaryOf ts) }), over (allVertices ts) es, over (allCorners (boundaryOf ts)) ss)
     (answers.Refused (endNumber fs ts), es, ss)

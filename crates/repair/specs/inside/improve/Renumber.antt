@@ -13,7 +13,7 @@ use Rattle.mesh.specs.declared.boundary.Outcome.{Outcome}
 use Rattle.mesh.specs.declared.boundary.Outcome.the-variants.{Surface, Refused}
 use Rattle.mesh.specs.Words.{wordAt}
 use Rattle.mesh.specs.Tests.{every}
-use Rattle.mesh.specs.Element.{tets}
+use Rattle.mesh.specs.Element.{tets, allCorners, allVertices}
 use Rattle.mesh.specs.Boundary.{boundaryNumber, boundaryOf}
 use Rattle.mesh.specs.Surface.{answer}
 use Rattle.mesh.specs.Manifold.{nonmanifold, nonmanifoldIn}
@@ -21,8 +21,8 @@ use Rattle.mesh.specs.Intake.{wellNumbered}
 use Rattle.mesh.specs.inside.Intake.{pointIn}
 use Rattle.repair.specs.declared.answer.Answer.{Answer}
 use Rattle.repair.specs.Mesh.{made, refused}
-use Rattle.repair.specs.Improve.{imageOf, allVertices, firstUses, placeOf, renumbered, endNumber}
-use Rattle.repair.specs.Step.{State, meshOf, floatsOf, tripleWords, over, finish}
+use Rattle.repair.specs.Improve.{imageOf, firstUses, placeOf, renumbered, endNumber}
+use Rattle.repair.specs.Step.{State, meshOf, floatsOf, over, finish}
 
 -- ---- what the end of `improve` gives
 
@@ -112,7 +112,7 @@ testedPart (Refused number) p = p
 pub record Ended (k nv : ℕ) (s₀ s : List ℕ) (r : Outcome) : Type 0 where
   pub answer : r ≡ answer (endOf (tets k s₀)) (length (boundaryOf (tets k s₀)))
   pub front : endOf (tets k s₀) ≡ 0 → take (4 * k) s ≡ take (4 * k) s₀
-  pub surface : endOf (tets k s₀) ≡ 0 → take (3 * length (boundaryOf (tets k s₀))) (drop (4 * k) s) ≡ tripleWords (boundaryOf (tets k s₀))
+  pub surface : endOf (tets k s₀) ≡ 0 → take (3 * length (boundaryOf (tets k s₀))) (drop (4 * k) s) ≡ allCorners (boundaryOf (tets k s₀))
   pub behind : drop (usedAt k nv) s ≡ drop (usedAt k nv) s₀
 
 -- ---- the new mesh in the buffers
