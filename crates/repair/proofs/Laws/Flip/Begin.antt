@@ -23,8 +23,8 @@ use Rattle.mesh.proofs.Laws.Star.Layout.{laid-yes}
 use Rattle.mesh.proofs.Laws.Star.Written.{length-written, written-behind, written-at}
 use Rattle.mesh.proofs.Laws.Star.Hanging.{length-built, built-outside, built-complete}
 use Rattle.mesh.proofs.Laws.Star.Calls.{tets-same}
-use Rattle.repair.specs.inside.Layout.{slotOk}
-use Rattle.repair.specs.inside.flip.Layout.{FlipRoom, facesAt, slotOf, wordsIn}
+use Rattle.repair.specs.inside.Layout.{slotOk, slotsIn}
+use Rattle.repair.specs.inside.flip.Layout.{FlipRoom, facesAt, slotOf}
 use Rattle.repair.specs.inside.flip.Tries.{Begun, faceRowsAt, edgeRowsAt}
 use Rattle.repair.specs.inside.flip.Prepare.{FacesLaid, EdgesLaid, SlotsLaid}
 use Rattle.repair.proofs.Laws.Layout.{area-at}
@@ -88,7 +88,7 @@ module _ (x : Index) (n : ℕ) (els w u v : List ℕ) (room : FlipRoom x n (leng
   v-long : length v ≡ length w
   v-long = ap length e₂ ∙ length-built x n u laid enough ∙ u-long
 
-  slot-words : wordsIn x n v ≡ tets n els
+  slot-words : slotsIn x n v ≡ tets n els
   slot-words = tets-same n els (drop (x .slots) v) (λ j h.
       getD-drop (x .slots) v j 0 ∙ ap (λ (y : List ℕ). wordAt y (x .slots + j)) e₂
       ∙ built-outside x n u laid enough (x .slots + j) (λ g. absurd (let a = room .slots in let b = room .nexts in omega arith))

@@ -22,8 +22,8 @@ use Rattle.mesh.proofs.Laws.Complex.Sets.{split, clash, nope, and-fst, and-snd,
 use Rattle.mesh.proofs.Laws.Star.Calls.{Answered}
 use Rattle.mesh.proofs.Laws.With.Found.{any-found, with-count, with-answered}
 use Rattle.repair.specs.Flip.{State, slotHas, numbersWith}
-use Rattle.repair.specs.inside.Layout.{Same, slotOk}
-use Rattle.repair.specs.inside.flip.Layout.{Stands, slotOf, wordsIn}
+use Rattle.repair.specs.inside.Layout.{Same, slotOk, slotsIn}
+use Rattle.repair.specs.inside.flip.Layout.{Stands, slotOf}
 use Rattle.repair.proofs.Laws.Same.{same-front}
 use Rattle.repair.proofs.Laws.Replace.Slots.{gone-has, ok-cases, well-there}
 use Rattle.repair.proofs.Laws.Flip.Layout.{room-laid, area-long}
@@ -73,7 +73,7 @@ module _ {x : Index} {n c : ℕ} {w : List ℕ} {s : State} (z : Stands x n c w 
   pub any-stands : (u v y : ℕ) → u < x .vertices → v < x .vertices → anyWith x w u v y ≡ any (slotHas (u ∷ v ∷ y ∷ [])) (s .slots)
   any-stands u v y hu hv =
       any-found x w c (z .index) u v y hu hv
-      ∙ sym (any-slots (x .vertices) (z .room .few) u hu (u ∷ v ∷ y ∷ []) (mem-here u (v ∷ y ∷ [])) (wordsIn x c w) (z .proper))
+      ∙ sym (any-slots (x .vertices) (z .room .few) u hu (u ∷ v ∷ y ∷ []) (mem-here u (v ∷ y ∷ [])) (slotsIn x c w) (z .proper))
       ∙ ap (any (slotHas (u ∷ v ∷ y ∷ []))) (sym (z .slots))
 
   -- the live elements that have two vertices
@@ -83,9 +83,9 @@ module _ {x : Index} {n c : ℕ} {w : List ℕ} {s : State} (z : Stands x n c w 
       let σ = a ∷ b ∷ [] in
       let l = room-laid (z .room) in
       let fit : x .area + (4 * c + 4 * c) ≤ length w = let g = area-long (z .room) in let h = z .fits in let k = z .room .room in omega arith in
-      let us = About.passFrom (hasAll σ) 0 (wordsIn x c w) in
+      let us = About.passFrom (hasAll σ) 0 (slotsIn x c w) in
       let f : us ≡ numbersWith σ (s .slots) =
-      numbers-found (x .vertices) (z .room .few) a ha σ (mem-here a (b ∷ [])) (wordsIn x c w) (z .proper) ∙ ap (numbersWith σ) (sym (z .slots)) in
+      numbers-found (x .vertices) (z .room .few) a ha σ (mem-here a (b ∷ [])) (slotsIn x c w) (z .proper) ∙ ap (numbersWith σ) (sym (z .slots)) in
       let e : r ≡ length us = er ∙ with-count x w c (z .index) a b ha hb l fit in
       let A : Answered w t (x .area) us = subst (λ (y : List ℕ). Answered w y (x .area) us) (sym et) (with-answered x w c (z .index) a b ha hb l fit) in
       (e ∙ ap length f, ap (λ (k : ℕ). take k (drop (x .area) t)) e ∙ A .list ∙ f, same-front (x .area) (A .long) (A .below))

@@ -22,9 +22,9 @@ use Rattle.mesh.proofs.Laws.Intake.Reads.{tets-at, length-tets}
 use Rattle.mesh.proofs.Laws.Link.Members.{kept-elim, every-elim}
 use Rattle.mesh.proofs.Laws.Manifold.Corners.{every-getD}
 use Rattle.repair.specs.Flip.{State, slotHas, live, numbersWith}
-use Rattle.repair.specs.inside.Layout.{slotOk}
+use Rattle.repair.specs.inside.Layout.{slotOk, slotsIn}
 use Rattle.repair.specs.inside.improve.Collapse.{slotAt}
-use Rattle.repair.specs.inside.flip.Layout.{Stands, slotOf, wordsIn}
+use Rattle.repair.specs.inside.flip.Layout.{Stands, slotOf}
 use Rattle.repair.proofs.Laws.Gain.Tallies.{elementAt}
 use Rattle.repair.proofs.Laws.Replace.Slots.{ok-cases}
 use Rattle.repair.proofs.Laws.Replace.Writes.{slot-corners}
@@ -63,10 +63,10 @@ module _ {x : Index} {n c : ℕ} {w : List ℕ} {s : State} (z : Stands x n c w 
   -- what is read from a slot
   pub slot-read : (i : ℕ) → i < c → {r : Tet} → r ≡ slotAt x w i → (getD (s .slots) i none ≡ slotOf r) × (slotOk (x .vertices) r ≡ true)
   slot-read i h {r} e =
-      let q : getD (wordsIn x c w) i goneTet ≡ r = tets-at c (drop (x .slots) w) i goneTet h ∙ sym e in
+      let q : getD (slotsIn x c w) i goneTet ≡ r = tets-at c (drop (x .slots) w) i goneTet h ∙ sym e in
       let l = length-tets c (drop (x .slots) w) in (
-        ap (λ (m : List (Option Tet)). getD m i none) (z .slots) ∙ ap (getD (map slotOf (wordsIn x c w)) i) (sym (slot-none goneTet refl)) ∙ List·getD-map slotOf (wordsIn x c w) i goneTet ∙ ap slotOf q,
-        subst (λ (t : Tet). slotOk (x .vertices) t ≡ true) q (every-getD (slotOk (x .vertices)) (wordsIn x c w) i goneTet (z .proper) (omega arith)),
+        ap (λ (m : List (Option Tet)). getD m i none) (z .slots) ∙ ap (getD (map slotOf (slotsIn x c w)) i) (sym (slot-none goneTet refl)) ∙ List·getD-map slotOf (slotsIn x c w) i goneTet ∙ ap slotOf q,
+        subst (λ (t : Tet). slotOk (x .vertices) t ≡ true) q (every-getD (slotOk (x .vertices)) (slotsIn x c w) i goneTet (z .proper) (omega arith)),
       )
 
   -- the element of a number with σ
@@ -79,8 +79,8 @@ module _ {x : Index} {n c : ℕ} {w : List ℕ} {s : State} (z : Stands x n c w 
   -- a live element has four different vertices
   pub live-well : (t : Tet) → List·Memᴰ t (live (s .slots)) → wellNumbered (x .vertices) t ≡ true
   live-well t m =
-      let k = kept-elim About.live (wordsIn x c w) (subst (List·Memᴰ t) (stands-live z) m) in
-      elim (ok-cases (x .vertices) t (every-elim (slotOk (x .vertices)) (wordsIn x c w) (z .proper) (k .0))) [
+      let k = kept-elim About.live (slotsIn x c w) (subst (List·Memᴰ t) (stands-live z) m) in
+      elim (ok-cases (x .vertices) t (every-elim (slotOk (x .vertices)) (slotsIn x c w) (z .proper) (k .0))) [
         | inl g ↦ absurd (clash (sym (ap About.live g) ∙ k .1) refl)
         | inr g ↦ g
       ]

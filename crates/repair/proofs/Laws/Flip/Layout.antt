@@ -20,8 +20,8 @@ use Rattle.mesh.proofs.Laws.Star.Calls.{answered-complete, answered-elements}
 use Rattle.mesh.proofs.Laws.Boundary.Same.{length-map}
 use Rattle.mesh.proofs.Laws.Intake.Reads.{length-tets}
 use Rattle.repair.specs.Flip.{State, live}
-use Rattle.repair.specs.inside.Layout.{Same, slotOk}
-use Rattle.repair.specs.inside.flip.Layout.{FlipRoom, Stands, Kept, slotOf, wordsIn, tripleAt}
+use Rattle.repair.specs.inside.Layout.{Same, slotOk, slotsIn}
+use Rattle.repair.specs.inside.flip.Layout.{FlipRoom, Stands, Kept, slotOf, tripleAt}
 
 -- the areas of the index lie one behind the other
 pub room-laid : {x : Index} {n m : ℕ} → FlipRoom x n m → Laid x m
@@ -55,17 +55,17 @@ live-slots (t ∷ ts) = go (gone t) (live-slots ts)
 module _ {x : Index} {n c : ℕ} {w : List ℕ} {s : State} (z : Stands x n c w s) where
   -- how many slots there are
   pub slots-many : length (s .slots) ≡ c
-  slots-many = ap length (z .slots) ∙ length-map slotOf (wordsIn x c w) ∙ length-tets c (drop (x .slots) w)
+  slots-many = ap length (z .slots) ∙ length-map slotOf (slotsIn x c w) ∙ length-tets c (drop (x .slots) w)
 
   -- the live elements of the state
-  pub stands-live : live (s .slots) ≡ keep About.live (wordsIn x c w)
-  stands-live = ap live (z .slots) ∙ live-slots (wordsIn x c w)
+  pub stands-live : live (s .slots) ≡ keep About.live (slotsIn x c w)
+  stands-live = ap live (z .slots) ∙ live-slots (slotsIn x c w)
 
   -- the same state where only words of the area changed
   pub stands-kept : {t : List ℕ} → Same w t (x .area) (length w) → Stands x n c t s
   stands-kept {t} k =
       let l = room-laid (z .room) in
-      let e : wordsIn x c t ≡ wordsIn x c w = answered-elements x w c l (z .fits) (z .index) t (k .before) in
+      let e : slotsIn x c t ≡ slotsIn x c w = answered-elements x w c l (z .fits) (z .index) t (k .before) in
       record {
         room = subst (FlipRoom x n) (sym (k .long)) (z .room);
         fits = z .fits;

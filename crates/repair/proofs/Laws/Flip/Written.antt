@@ -22,9 +22,9 @@ use Rattle.mesh.proofs.Laws.Star.Calls.{tets-same, gone-complete, written-compl
 use Rattle.mesh.proofs.Laws.Star.Layout.{laid-yes}
 use Rattle.mesh.proofs.Laws.Star.Hanging.{length-appended, appended-outside, appended-complete}
 use Rattle.repair.specs.Flip.{State}
-use Rattle.repair.specs.inside.Layout.{slotOk}
+use Rattle.repair.specs.inside.Layout.{slotOk, slotsIn}
 use Rattle.repair.specs.inside.improve.Collapse.{putSlot}
-use Rattle.repair.specs.inside.flip.Layout.{FlipRoom, Stands, Kept, facesAt, slotOf, wordsIn}
+use Rattle.repair.specs.inside.flip.Layout.{FlipRoom, Stands, Kept, facesAt, slotOf}
 use Rattle.repair.proofs.Laws.Layout.{area-at}
 use Rattle.repair.proofs.Laws.Project.Lists.{map-set}
 use Rattle.repair.proofs.Laws.Improve.Edges.{every-append}
@@ -85,7 +85,7 @@ module _ {x : Index} {n c : ℕ} {w : List ℕ} {s : State} (z : Stands x n c w 
     behind : (j : ℕ) → x .nexts ≤ j → wordAt u j ≡ wordAt w j
     behind j g = let l = laid .nexts in let k = z .fits in put-other w (x .slots + 4 * e) goneTet j (λ q. omega arith)
 
-    words : wordsIn x c u ≡ set (wordsIn x c w) e goneTet
+    words : slotsIn x c u ≡ set (slotsIn x c w) e goneTet
     words =
         let l = laid .nexts in let k = z .fits in let a = laid .heads in let b = laid .lengths in let d = laid .area in let f = laid .end in
         tets-put c (x .slots) e (x .slots + 4 * e) w goneTet refl h (omega arith)
@@ -115,8 +115,8 @@ module _ {x : Index} {n c : ℕ} {w : List ℕ} {s : State} (z : Stands x n c w 
     stands = record {
       room = subst (FlipRoom x n) (sym long) (z .room);
       fits = z .fits;
-      slots = ap (λ (l : List (Option Tet)). set l e none) (z .slots) ∙ ap (set (map slotOf (wordsIn x c w)) e) (sym (slot-none goneTet refl)) ∙ sym (ap (map slotOf) words ∙ map-set slotOf (wordsIn x c w) e goneTet);
-      proper = ap (every (slotOk (x .vertices))) words ∙ every-set (slotOk (x .vertices)) (wordsIn x c w) e goneTet (z .proper) (ok-gone (x .vertices));
+      slots = ap (λ (l : List (Option Tet)). set l e none) (z .slots) ∙ ap (set (map slotOf (slotsIn x c w)) e) (sym (slot-none goneTet refl)) ∙ sym (ap (map slotOf) words ∙ map-set slotOf (slotsIn x c w) e goneTet);
+      proper = ap (every (slotOk (x .vertices))) words ∙ every-set (slotOk (x .vertices)) (slotsIn x c w) e goneTet (z .proper) (ok-gone (x .vertices));
       index = gone-complete x w c laid (z .fits) (z .index) u (λ j a b. behind j a) corner;
     }
 
@@ -186,7 +186,7 @@ module _ {x : Index} {n c : ℕ} {w : List ℕ} {s : State} (z : Stands x n c w 
   room-here : x .slots + 4 * c + 4 ≤ x .nexts
   room-here = let a = old-laid .nexts in omega arith
 
-  first-words : wordsIn x c after ≡ wordsIn x c w
+  first-words : slotsIn x c after ≡ slotsIn x c w
   first-words = let r = room-here in from-same c (x .slots) w after (λ j a b. outside j (λ g. absurd (omega arith)) ∙ put-other w (x .slots + 4 * c) t j (λ g. absurd (omega arith)))
 
   last-word : elementAt after (x .slots + 4 * c) ≡ t
@@ -195,10 +195,10 @@ module _ {x : Index} {n c : ℕ} {w : List ℕ} {s : State} (z : Stands x n c w 
       element-same put after (x .slots + 4 * c) (outside _ (λ g. absurd (omega arith))) (outside _ (λ g. absurd (omega arith))) (outside _ (λ g. absurd (omega arith))) (outside _ (λ g. absurd (omega arith)))
       ∙ element-put w (x .slots + 4 * c) t (omega arith)
 
-  all-words : wordsIn x (c + 1) after ≡ wordsIn x c w ++ (t ∷ [])
+  all-words : slotsIn x (c + 1) after ≡ slotsIn x c w ++ (t ∷ [])
   all-words =
       let e : c + 1 ≡ suc c = omega arith in
-      ap (λ (k : ℕ). wordsIn x k after) e ∙ tets-last c (x .slots) after ∙ ap₂ (λ (l : List Tet) (q : Tet). l ++ (q ∷ [])) first-words last-word
+      ap (λ (k : ℕ). slotsIn x k after) e ∙ tets-last c (x .slots) after ∙ ap₂ (λ (l : List Tet) (q : Tet). l ++ (q ∷ [])) first-words last-word
 
   pub slot-added : (v : List ℕ) → v ≡ after → Stands x n (c + 1) v (record { slots = s .slots ++ (some t ∷ []); flips = s .flips }) × Kept x w v
   slot-added v i = subst (λ (y : List ℕ). Stands x n (c + 1) y (record { slots = s .slots ++ (some t ∷ []); flips = s .flips }) × Kept x w y) (sym i) (
@@ -207,8 +207,8 @@ module _ {x : Index} {n c : ℕ} {w : List ℕ} {s : State} (z : Stands x n c w 
       fits = omega arith;
       slots =
           ap₂ (λ (l : List (Option Tet)) (q : Option Tet). l ++ (q ∷ [])) (z .slots) (sym (slot-some t (well-there (x .vertices) (let k = z .room .few in omega arith) t ok)))
-          ∙ sym (ap (map slotOf) all-words ∙ map-append slotOf (wordsIn x c w) (t ∷ []));
-      proper = ap (every (slotOk (x .vertices))) all-words ∙ every-append (slotOk (x .vertices)) (wordsIn x c w) (t ∷ []) (z .proper) (rw (ok-well (x .vertices) t ok) refl);
+          ∙ sym (ap (map slotOf) all-words ∙ map-append slotOf (slotsIn x c w) (t ∷ []));
+      proper = ap (every (slotOk (x .vertices))) all-words ∙ every-append (slotOk (x .vertices)) (slotsIn x c w) (t ∷ []) (z .proper) (rw (ok-well (x .vertices) t ok) refl);
       index = appended-complete x c (c + 1) put put-laid (omega arith) (omega arith)
           (written-complete x w c old-laid (z .fits) (z .index) put (λ j a b. let r = room-here in put-other w (x .slots + 4 * c) t j (λ g. omega arith)) (λ p g. put-other w (x .slots + 4 * c) t (x .slots + p) (λ q. absurd (omega arith))));
     },

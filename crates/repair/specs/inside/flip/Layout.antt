@@ -5,17 +5,17 @@ use mathlib.Core.Path.{_≡_}
 use mathlib.Core.Bool.{true, cond}
 use mathlib.Core.List.{List, map}
 use mathlib.Core.Option.{Option, none, some}
-use lib.ListN.{length, take, drop, set}
+use lib.ListN.{length, take, set}
 use Rattle.mesh.specs.declared.element.Triple.{Triple}
 use Rattle.mesh.specs.declared.element.Tet.{Tet}
 use Rattle.mesh.specs.declared.star.Index.{Index}
 use Rattle.mesh.specs.Words.{wordAt}
 use Rattle.mesh.specs.Tests.{every}
-use Rattle.mesh.specs.Element.{triple, tets}
+use Rattle.mesh.specs.Element.{triple}
 use Rattle.mesh.specs.inside.List.{gone}
 use Rattle.mesh.specs.inside.Star.{Complete}
 use Rattle.repair.specs.Flip.{State, live}
-use Rattle.repair.specs.inside.Layout.{slotOk}
+use Rattle.repair.specs.inside.Layout.{slotsIn, slotOk}
 
 -- ---- the areas
 
@@ -45,16 +45,12 @@ pub record FlipRoom (x : Index) (n m : ℕ) : Type 0 where
 unfoldable pub slotOf : Tet → Option Tet
 slotOf t = cond (gone t) none (some t)
 
--- the words of the first c slots as elements, those that are gone included
-abbrev pub wordsIn : Index → ℕ → List ℕ → List Tet
-wordsIn x c w = tets c (drop (x .slots) w)
-
 -- the work slice stands for the state s, which has c slots
 pub record Stands (x : Index) (n c : ℕ) (w : List ℕ) (s : State) : Type 0 where
   pub room : FlipRoom x n (length w)
   pub fits : c ≤ x .room
-  pub slots : s .slots ≡ map slotOf (wordsIn x c w)
-  pub proper : every (slotOk (x .vertices)) (wordsIn x c w) ≡ true
+  pub slots : s .slots ≡ map slotOf (slotsIn x c w)
+  pub proper : every (slotOk (x .vertices)) (slotsIn x c w) ≡ true
   pub index : Complete x w (4 * c)
 
 -- what is listed is the same
