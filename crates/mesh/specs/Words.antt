@@ -2,7 +2,7 @@
 -- `lib.Ieee`. Reads past the end give zero, so that every function of the crate is total. Assumes nothing.
 use mathlib.Core.Bool.{Bool, cond, _&&_}
 use mathlib.Core.List.{List, [], _∷_, _++_}
-use Prim.Native.Nat.{ℕ, zero, suc, _+_}
+use Prim.Native.Nat.{ℕ, zero, suc, _+_, _*_}
 use lib.Dec.{leb}
 use lib.Ieee.{Float}
 use lib.ListN.{length, drop, getD, replicate}
@@ -41,6 +41,10 @@ zeroPoint = record { x = zero64; y = zero64; z = zero64 }
 -- the point of the vertex v, 0 0 0 past the last vertex
 abbrev pub pointAt : List Point → ℕ → Point
 pointAt ps v = getD ps v zeroPoint
+
+-- the point of the vertex v in a list of floats, three floats each; a float past the end counts as +0.0
+unfoldable pub pointIn : List Float → ℕ → Point
+pointIn s v = record { x = floatAt s (3 * v); y = floatAt s (3 * v + 1); z = floatAt s (3 * v + 2) }
 
 -- the first n points of a list of floats, three floats each
 unfoldable pub pointsOf : ℕ → List Float → List Point

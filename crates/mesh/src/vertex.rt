@@ -4,8 +4,8 @@ use crate::words::float;
 use crate::words::word;
 use geometry::point::Point;
 ghost use mathlib.Core.Path.{_≡_};
-ghost use Rattle.mesh.specs.Words.{pointAt, pointsOf};
-ghost use Rattle.mesh.specs.inside.Intake.{tetAt, pointIn};
+ghost use Rattle.mesh.specs.Words.{pointAt, pointsOf, pointIn};
+ghost use Rattle.mesh.specs.inside.Intake.{tetAt};
 
 // The element e, four words each.
 pub fn tet_at(elements: &[u32], e: usize) -> Tet

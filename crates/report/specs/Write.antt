@@ -16,7 +16,7 @@ use Rattle.geometry.specs.declared.field.Field.the-variants.{Level, Plane, Ball
 use Rattle.geometry.specs.declared.point.Point.{Point}
 use Rattle.geometry.specs.Float.{zero64}
 use Rattle.geometry.specs.Word.{lowWord, highWord}
-use Rattle.mesh.specs.Words.{wordAt, floatAt, zeroWords}
+use Rattle.mesh.specs.Words.{wordAt, floatAt, pointIn, zeroWords}
 use Rattle.report.specs.Format.{bytesABlock, headerKind, vertexKind, elementKind, recordRoom, verticesABlock, elementsABlock, fieldPlaces, fieldSize, levelKind, planeKind, ballKind, mostVertices, mostElements}
 use Rattle.report.specs.Bytes.{listed}
 use Rattle.report.specs.Block.{Plot, vertexBlocks, elementBlocks}
@@ -92,14 +92,10 @@ headerFront o count fields vertices elements = blockFront headerKind 0 1 (header
 
 -- ---- vertex and element records
 
--- the three floats of the vertex v in a list of three a vertex
-unfoldable pub rowPoint : List Float → ℕ → Point
-rowPoint s v = record { x = floatAt s (3 * v); y = floatAt s (3 * v + 1); z = floatAt s (3 * v + 2) }
-
 -- "Vertex record ..: 3 parameters, 3 point coordinates, mask"
 unfoldable pub vertexRecord : List Float → List Float → List ℕ → ℕ → List ℕ
 vertexRecord parameters points masks v =
-    pointWords (rowPoint parameters v) ++ (pointWords (rowPoint points v) ++ (wordAt masks v ∷ []))
+    pointWords (pointIn parameters v) ++ (pointWords (pointIn points v) ++ (wordAt masks v ∷ []))
 
 -- "Element record: 4 words"
 unfoldable pub elementRecord : List ℕ → ℕ → List ℕ

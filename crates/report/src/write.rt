@@ -25,7 +25,7 @@ use geometry::field::Field;
 use geometry::point::Point;
 use geometry::word::high_word;
 use geometry::word::low_word;
-use mesh::words::float;
+use mesh::vertex::point_at;
 use mesh::words::least;
 use mesh::words::word;
 ghost use mathlib.Core.Path.{_≡_};
@@ -36,7 +36,7 @@ ghost use lib.ListN.{length};
 ghost use Rattle.mesh.specs.Words.{zeroWords};
 ghost use Rattle.report.specs.Format.{bytesABlock, firstRecord, vertexSize, verticesABlock, elementSize, elementsABlock, headerSize, fieldPlaces, fieldSize, mostVertices, mostElements};
 ghost use Rattle.report.specs.Bytes.{listed};
-ghost use Rattle.report.specs.Write.{floatWords, pointWords, checkOf, closed, optionsWords, boundsWords, fieldWords, placeWords, headerRecord, headerFront, rowPoint, vertexRecord, elementRecord, recordsFrom, vertexFront, elementFront, fileBlock, blocksOf, roomFor, fileInto, fileSize};
+ghost use Rattle.report.specs.Write.{floatWords, pointWords, checkOf, closed, optionsWords, boundsWords, fieldWords, placeWords, headerRecord, headerFront, vertexRecord, elementRecord, recordsFrom, vertexFront, elementFront, fileBlock, blocksOf, roomFor, fileInto, fileSize};
 ghost use Rattle.report.specs.inside.Put.{Put};
 
 // Where the next word goes, and the sum of the block's words so far, modulo 2^32.
@@ -240,18 +240,6 @@ fn put_header(
     put_end(out, d, RECORD_ROOM - HEADER_SIZE)
 }
 
-// The three floats of the vertex v.
-fn row_point(s: &[f64], v: usize) -> Point
-    requires { ⌜ v < 1000 ⌝ }
-    ensures { λ r. ⌜ r ≡ rowPoint (now (s .entry)) v ⌝ }
-{
-    Point {
-        x: float(s, 3 * v),
-        y: float(s, 3 * v + 1),
-        z: float(s, 3 * v + 2),
-    }
-}
-
 // Writes the record of the vertex v.
 fn put_vertex(
     out: &mut [u8],
@@ -264,9 +252,9 @@ fn put_vertex(
     requires { ⌜ (c .at + 4 * vertexSize ≤ length (now out)) × (v < 1000) ⌝ }
     ensures { λ r. ⌜ Put (now (out .entry)) (now (out .exit)) (c .at) (c .sum) (r .at) (r .sum) (vertexRecord (now (parameters .entry)) (now (points .entry)) (now (masks .entry)) v) × (r .at ≡ c .at + 4 * vertexSize) ⌝ }
 {
-    let p = row_point(parameters, v);
+    let p = point_at(parameters, v);
     let d = put_floats(out, c, p);
-    let q = row_point(points, v);
+    let q = point_at(points, v);
     let e = put_floats(out, d, q);
     put_word(out, e, word(masks, v))
 }

@@ -10,11 +10,10 @@ use Rattle.geometry.specs.declared.point.Point.{Point}
 use Rattle.geometry.specs.declared.bounds.Options.{Options}
 use Rattle.geometry.specs.declared.bounds.Ranks.{Ranks}
 use Rattle.geometry.specs.Rank.{rank}
-use Rattle.mesh.specs.Words.{zeroWords, numbers, flat}
+use Rattle.mesh.specs.Words.{zeroWords, numbers, flat, pointIn}
 use Rattle.mesh.specs.Sort.{sort}
 use Rattle.mesh.specs.inside.Rows.{leRow, eqRow}
 use Rattle.mesh.specs.Group.{rankOf}
-use Rattle.mesh.specs.inside.Intake.{pointIn}
 
 -- ---- runs
 

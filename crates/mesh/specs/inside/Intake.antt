@@ -1,10 +1,10 @@
--- Intake by parts, as src/intake.rt tests them: elements and points in their slices, the rows of vertices, the numbers of the table in two
--- steps. For contracts of private functions and for proofs; definitions only.
+-- Intake by parts, as src/intake.rt tests them: elements in their slice, the rows of vertices, the numbers of the table in two steps.
+-- For contracts of private functions and for proofs; definitions only.
 use Prim.Native.Nat.{ℕ, _+_, _*_}
 use mathlib.Core.Bool.{Bool, not, cond, _&&_, _||_}
 use mathlib.Core.List.{List}
 use lib.Dec.{leb}
-use lib.Ieee.{Float, lt}
+use lib.Ieee.{lt}
 use Rattle.geometry.specs.declared.point.Point.{Point}
 use Rattle.geometry.specs.declared.bounds.Bounds.{Bounds}
 use Rattle.geometry.specs.declared.bounds.Options.{Options}
@@ -15,20 +15,16 @@ use Rattle.mesh.specs.declared.intake.Lengths.{Lengths}
 use Rattle.mesh.specs.Sort.{sort}
 use Rattle.mesh.specs.inside.Rows.{eqRow}
 use Rattle.mesh.specs.Tests.{every}
-use Rattle.mesh.specs.Words.{wordAt, floatAt}
+use Rattle.mesh.specs.Words.{wordAt}
 use Rattle.mesh.specs.Element.{tet, verticesOf}
 use Rattle.mesh.specs.inside.Sort.{ordered}
 use Rattle.mesh.specs.Intake.{Given, allDifferent, fieldsIn, inBox, optionsIn, sizedPoint, tooMany, tooShort, upright, wellNumbered}
 
--- ---- elements and points in their slices
+-- ---- elements in their slice
 
 -- the element e of a list of words, four words each; a word past the end counts as 0
 unfoldable pub tetAt : List ℕ → ℕ → Tet
 tetAt s e = tet (wordAt s (4 * e)) (wordAt s (4 * e + 1)) (wordAt s (4 * e + 2)) (wordAt s (4 * e + 3))
-
--- the point of the vertex v in a list of floats, three floats each; a float past the end counts as +0.0
-unfoldable pub pointIn : List Float → ℕ → Point
-pointIn s v = record { x = floatAt s (3 * v); y = floatAt s (3 * v + 1); z = floatAt s (3 * v + 2) }
 
 -- ---- 11
 

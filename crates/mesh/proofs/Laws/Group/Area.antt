@@ -13,10 +13,9 @@ use Rattle.geometry.specs.declared.point.Point.{Point}
 use Rattle.geometry.specs.declared.bounds.Options.{Options}
 use Rattle.geometry.specs.declared.bounds.Ranks.{Ranks}
 use Rattle.geometry.specs.Rank.{rank}
-use Rattle.mesh.specs.Words.{zeroPoint, pointsOf, zeroWords, numbers, flat}
+use Rattle.mesh.specs.Words.{zeroPoint, pointsOf, zeroWords, numbers, flat, pointIn}
 use Rattle.mesh.specs.Sort.{sort}
 use Rattle.mesh.specs.inside.Rows.{rows, leRow, fitRows, sortedArea}
-use Rattle.mesh.specs.inside.Intake.{pointIn}
 use Rattle.mesh.specs.Group.{rankOf}
 use Rattle.mesh.specs.inside.Group.{groupRow, groupRows, groupFits, groupedArea, groupRowAt}
 use Rattle.mesh.specs.inside.Manifold.{filled}

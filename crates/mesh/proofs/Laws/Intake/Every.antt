@@ -11,9 +11,9 @@ use lib.Seq.{drop-cons, getD-take, length-take-le}
 use Rattle.geometry.specs.declared.point.Point.{Point}
 use Rattle.mesh.specs.declared.element.Tet.{Tet}
 use Rattle.mesh.specs.Tests.{every}
-use Rattle.mesh.specs.Words.{zeroPoint, pointsOf}
+use Rattle.mesh.specs.Words.{zeroPoint, pointsOf, pointIn}
 use Rattle.mesh.specs.Element.{tet, tets}
-use Rattle.mesh.specs.inside.Intake.{tetAt, pointIn}
+use Rattle.mesh.specs.inside.Intake.{tetAt}
 use Rattle.mesh.proofs.Laws.Parts.{getD-any}
 use Rattle.mesh.proofs.Laws.Intake.Reads.{length-tets, tets-at, length-points, points-at}
 

@@ -10,9 +10,9 @@ use lib.Seq.{getD-drop}
 use Rattle.geometry.specs.declared.point.Point.{Point}
 use Rattle.geometry.specs.Float.{zero64}
 use Rattle.mesh.specs.declared.element.Tet.{Tet}
-use Rattle.mesh.specs.Words.{wordAt, floatAt, zeroPoint, pointAt, pointsOf}
+use Rattle.mesh.specs.Words.{wordAt, floatAt, zeroPoint, pointAt, pointsOf, pointIn}
 use Rattle.mesh.specs.Element.{tet, tets, triples, allVertices, allCorners}
-use Rattle.mesh.specs.inside.Intake.{tetAt, pointIn}
+use Rattle.mesh.specs.inside.Intake.{tetAt}
 
 -- ---- past the end
 

@@ -1,6 +1,6 @@
 -- `mesh::vertex::point_at` meets its contract: past the end all three floats are +0.0. Assumes nothing.
 use borrow.Author.Needs.{needs}
-use Rattle.mesh.specs.inside.Intake.{pointIn}
+use Rattle.mesh.specs.Words.{pointIn}
 use Rattle.mesh.proofs.Laws.Intake.Reads.{point-past}
 use Rattle.mesh.proofs.vertex.point_at.Statement.{statement}
 use Rattle.mesh.proofs.vertex.point_at.Tie as tie

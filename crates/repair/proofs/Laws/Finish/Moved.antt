@@ -9,8 +9,7 @@ use lib.Ieee.{Float}
 use lib.ListN.{length, take, drop, set, length-set, length-drop}
 use lib.Seq.{take-suc, take-suc-set, drop-set-add, take-set-le, getD-drop, length-take-le}
 use Rattle.geometry.specs.declared.point.Point.{Point}
-use Rattle.mesh.specs.Words.{wordAt, inside, copied}
-use Rattle.mesh.specs.inside.Intake.{pointIn}
+use Rattle.mesh.specs.Words.{wordAt, inside, copied, pointIn}
 use Rattle.mesh.specs.inside.Manifold.{KeptBelow}
 use Rattle.mesh.proofs.Laws.Manifold.Steps.{word-below}
 use Rattle.repair.specs.Step.{floatsOf, over}

@@ -14,12 +14,11 @@ use Rattle.mesh.specs.declared.element.Tet.{Tet}
 use Rattle.mesh.specs.declared.intake.Sizes.{Sizes}
 use Rattle.mesh.specs.declared.boundary.Outcome.{Outcome}
 use Rattle.mesh.specs.declared.boundary.Outcome.the-variants.{Surface, Refused}
-use Rattle.mesh.specs.Words.{wordAt, pointAt, pointsOf, zeroPoint}
+use Rattle.mesh.specs.Words.{wordAt, pointAt, pointsOf, zeroPoint, pointIn}
 use Rattle.mesh.specs.Tests.{every}
 use Rattle.mesh.specs.Element.{tets, allCorners, allVertices}
 use Rattle.mesh.specs.Boundary.{boundaryOf}
 use Rattle.mesh.specs.Surface.{answer}
-use Rattle.mesh.specs.inside.Intake.{pointIn}
 use Rattle.mesh.proofs.Laws.Intake.Reads.{length-tets, elements-front, points-at}
 use Rattle.mesh.proofs.Laws.Boundary.Faces.{map-known}
 use Rattle.mesh.proofs.Laws.Boundary.Whole.{taken-zero, refused-is}

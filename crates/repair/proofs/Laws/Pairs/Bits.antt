@@ -19,10 +19,9 @@ use Rattle.geometry.specs.declared.point.Point.{Point}
 use Rattle.geometry.specs.declared.bounds.Bounds.{Bounds}
 use Rattle.geometry.specs.declared.bounds.Options.{Options}
 use Rattle.geometry.specs.Bounds.{stratum}
-use Rattle.mesh.specs.Words.{wordAt, zeroPoint, pointAt, pointsOf}
+use Rattle.mesh.specs.Words.{wordAt, zeroPoint, pointAt, pointsOf, pointIn}
 use Rattle.mesh.specs.Complex.{mem, sub}
 use Rattle.mesh.specs.Feature.{bitsFrom, bitsOf}
-use Rattle.mesh.specs.inside.Intake.{pointIn}
 use Rattle.mesh.proofs.Laws.Intake.Reads.{points-at}
 use Rattle.mesh.proofs.Laws.Complex.Sets.{split}
 use Rattle.repair.specs.Mesh.{Mesh}

@@ -11,14 +11,13 @@ use Rattle.mesh.specs.declared.element.Tet.{Tet}
 use Rattle.mesh.specs.declared.intake.Sizes.{Sizes}
 use Rattle.mesh.specs.declared.boundary.Outcome.{Outcome}
 use Rattle.mesh.specs.declared.boundary.Outcome.the-variants.{Surface, Refused}
-use Rattle.mesh.specs.Words.{wordAt}
+use Rattle.mesh.specs.Words.{wordAt, pointIn}
 use Rattle.mesh.specs.Tests.{every}
 use Rattle.mesh.specs.Element.{tets, allCorners, allVertices}
 use Rattle.mesh.specs.Boundary.{boundaryNumber, boundaryOf}
 use Rattle.mesh.specs.Surface.{answer}
 use Rattle.mesh.specs.Manifold.{nonmanifold, nonmanifoldIn}
 use Rattle.mesh.specs.Intake.{wellNumbered}
-use Rattle.mesh.specs.inside.Intake.{pointIn}
 use Rattle.repair.specs.declared.answer.Answer.{Answer}
 use Rattle.repair.specs.Mesh.{made, refused}
 use Rattle.repair.specs.Improve.{imageOf, firstUses, placeOf, renumbered, endNumber}

@@ -12,13 +12,13 @@ use borrow.Author.Tests.{ltb-false}
 use Rattle.geometry.specs.declared.field.Field.{Field}
 use Rattle.geometry.specs.declared.field.Field.the-variants.{Level}
 use Rattle.geometry.specs.Float.{zero64}
-use Rattle.mesh.specs.Words.{wordAt, floatAt}
+use Rattle.mesh.specs.Words.{wordAt, floatAt, pointIn}
 use Rattle.mesh.proofs.Laws.Bools.{split}
 use Rattle.report.specs.Format.{wordsABlock, bytesABlock, firstRecord, vertexSize, verticesABlock, elementSize, elementsABlock, fieldPlaces}
 use Rattle.report.specs.Bytes.{listed}
 use Rattle.report.specs.Block.{Plot, vertexBlocks, vertexPlace, parameterRow, pointRow, maskRow, elementPlace, elementRow, plotIn, reading}
 use Rattle.report.specs.Block.{read}
-use Rattle.report.specs.Write.{rowPoint, vertexRecord, elementRecord, recordsFrom, vertexFront, elementFront, blocksOf, fileOf, hasRoom, fileInto, fileSize, keptField, kept, Sound, Exact}
+use Rattle.report.specs.Write.{vertexRecord, elementRecord, recordsFrom, vertexFront, elementFront, blocksOf, fileOf, hasRoom, fileInto, fileSize, keptField, kept, Sound, Exact}
 use Rattle.report.proofs.Laws.Prefix.{listed-same}
 use Rattle.report.proofs.Laws.Write.Sizes.{vertex-length, element-length}
 use Rattle.report.proofs.Laws.Write.Files.{file-length}
@@ -64,7 +64,7 @@ module _ (p : Plot) (ok : Sound p) where
   -- the parameters of the vertex v
   parameter-back : (v : ℕ) → v < p .vertices
       → parameterRow (fileOf p) v ≡ floatAt (p .parameters) (3 * v) ∷ floatAt (p .parameters) (3 * v + 1) ∷ floatAt (p .parameters) (3 * v + 2) ∷ []
-  unfolding parameterRow vertexRecord rowPoint
+  unfolding parameterRow vertexRecord pointIn
   parameter-back v l =
       let h = vertex-holds v l in
       let q = p .parameters in
@@ -77,7 +77,7 @@ module _ (p : Plot) (ok : Sound p) where
   -- its point
   point-back : (v : ℕ) → v < p .vertices
       → pointRow (fileOf p) v ≡ floatAt (p .points) (3 * v) ∷ floatAt (p .points) (3 * v + 1) ∷ floatAt (p .points) (3 * v + 2) ∷ []
-  unfolding pointRow vertexRecord rowPoint
+  unfolding pointRow vertexRecord pointIn
   point-back v l =
       let h = vertex-holds v l in
       let q = p .points in
@@ -89,7 +89,7 @@ module _ (p : Plot) (ok : Sound p) where
 
   -- its mask
   mask-back : (v : ℕ) → v < p .vertices → maskRow (fileOf p) v ≡ wordAt (p .masks) v ∷ []
-  unfolding maskRow vertexRecord rowPoint
+  unfolding maskRow vertexRecord pointIn
   mask-back v l = rw (word-at (fileOf p) (vertexPlace v) (record-of v) (vertex-holds v l) 12 (vertexPlace v + 12) (wordAt (p .masks) v) refl (omega arith) refl (ok .masks-small v))
 
   -- the vertices of the element e

@@ -7,14 +7,14 @@ use borrow.Author.Needs.{needs}
 use Rattle.report.proofs.write.put_vertex.Statement.{statement}
 use Rattle.report.proofs.write.put_vertex.Tie as tie
 
-row-point-requires : tie.Need-row-point-requires
-row-point-requires c κs = search needs
+point-at-requires : tie.Need-point-at-requires
+point-at-requires c κs = search needs
 
 put-floats-requires : tie.Need-put-floats-requires
 put-floats-requires c κs = search needs
 
-row-point-requires-2 : tie.Need-row-point-requires-2
-row-point-requires-2 c κs = search needs
+point-at-requires-2 : tie.Need-point-at-requires-2
+point-at-requires-2 c κs = search needs
 
 put-floats-requires-2 : tie.Need-put-floats-requires-2
 put-floats-requires-2 c κs = search needs
@@ -30,15 +30,15 @@ same-length c = search needs
 
 returns : tie.Need-returns
 unfolding vertexRecord
-returns c = (put-then _ _ (put-as (ap pointWords (c .before .before .before .before .before .before .before .before .before .before .before .before .before .before .row-point .ensures)) (c .before .before .before .before .before .before .before .before .before .before .before .before .put-floats .ensures .0)) (put-then _ _ (put-as (ap pointWords (c .before .before .before .before .before .before .before .before .before .row-point2 .ensures)) (c .before .before .before .before .before .before .before .put-floats2 .ensures .0)) (put-is (c .before .before .before .word .ensures) (c .before .before .put-word .ensures .0))), omega (arith, c .before .before .before .before .before .before .before .before .before .before .before .before .put-floats .ensures .1, c .before .before .before .before .before .before .before .put-floats2 .ensures .1, c .before .before .put-word .ensures .1))
+returns c = (put-then _ _ (put-as (ap pointWords (c .before .before .before .before .before .before .before .before .before .before .before .before .before .before .point-at .ensures)) (c .before .before .before .before .before .before .before .before .before .before .before .before .put-floats .ensures .0)) (put-then _ _ (put-as (ap pointWords (c .before .before .before .before .before .before .before .before .before .point-at2 .ensures)) (c .before .before .before .before .before .before .before .put-floats2 .ensures .0)) (put-is (c .before .before .before .word .ensures) (c .before .before .put-word .ensures .0))), omega (arith, c .before .before .before .before .before .before .before .before .before .before .before .before .put-floats .ensures .1, c .before .before .before .before .before .before .before .put-floats2 .ensures .1, c .before .before .put-word .ensures .1))
 
 pub put-vertex-spec : {M : Type 1} → statement M
 put-vertex-spec =
     tie.close
     (tie.spec
-    row-point-requires
+    point-at-requires
     put-floats-requires
-    row-point-requires-2
+    point-at-requires-2
     put-floats-requires-2
     word-requires
     put-word-requires

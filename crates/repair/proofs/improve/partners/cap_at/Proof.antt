@@ -2,8 +2,7 @@
 use mathlib.Core.Path.{sym, ap, _∙_}
 use Rattle.geometry.specs.declared.point.Point.{Point}
 use Rattle.geometry.specs.Bounds.{cap}
-use Rattle.mesh.specs.Words.{zeroPoint}
-use Rattle.mesh.specs.inside.Intake.{pointIn}
+use Rattle.mesh.specs.Words.{zeroPoint, pointIn}
 use Rattle.mesh.proofs.Laws.Intake.Reads.{points-at}
 use borrow.Author.Needs.{needs}
 use Rattle.repair.proofs.improve.partners.cap_at.Statement.{statement}

@@ -2,7 +2,7 @@
 use mathlib.Core.Path.{_≡_, ap, _∙_}
 use Rattle.geometry.specs.declared.point.Point.{Point}
 use Rattle.geometry.specs.Rank.{rank}
-use Rattle.mesh.specs.inside.Intake.{pointIn}
+use Rattle.mesh.specs.Words.{pointIn}
 use borrow.Author.Needs.{needs}
 use mathlib.Core.List.{[], _∷_}
 use Rattle.geometry.specs.declared.bounds.Ranks.{Ranks}

@@ -5,8 +5,7 @@ use native.Mathlib.Omega.{arith}
 use Rattle.geometry.specs.declared.point.Point.{Point}
 use Rattle.geometry.specs.Bounds.{stratum}
 use Rattle.geometry.proofs.Laws.Box.Cap.{stratum-lt}
-use Rattle.mesh.specs.Words.{wordAt}
-use Rattle.mesh.specs.inside.Intake.{pointIn}
+use Rattle.mesh.specs.Words.{wordAt, pointIn}
 use mathlib.Core.Path.{ap}
 use borrow.Author.Needs.{needs}
 use Rattle.repair.proofs.improve.partners.stratum_at.Statement.{statement}
