@@ -10,7 +10,7 @@ ghost use mathlib.Core.List.{[], _∷_};
 ghost use Prim.Native.Nat.{_/_, _<_};
 ghost use lib.ListN.{length};
 ghost use Rattle.mesh.specs.Complex.{mem};
-ghost use Rattle.mesh.specs.inside.Star.{cornersAt, lengthOf, Free, written};
+ghost use Rattle.mesh.specs.inside.Star.{cornersAt, chainLength, Free, written};
 ghost use Rattle.mesh.specs.inside.With.{rarer, entryHas, withIf, withMet, anyWith, withList, withIn};
 
 // The one of v and w whose chain has fewer entries, v where both have as many.
@@ -100,7 +100,7 @@ fn put_two(s: &mut [u32], x: Index, v: u32, w: u32, p: u32, k: usize) -> usize
 
 // Puts the slots that have v and w, by the chain of a, at the area's front, and gives how many.
 fn put_with(s: &mut [u32], x: Index, a: u32, v: u32, w: u32) -> usize
-    requires { ⌜ Free x (now s) (x .area) (lengthOf x (now s) a) ⌝ }
+    requires { ⌜ Free x (now s) (x .area) (chainLength x (now s) a) ⌝ }
     ensures { λ r. ⌜ (r ≡ length (withMet x (now (s .entry)) a (v ∷ w ∷ []))) × (now (s .exit) ≡ written (now (s .entry)) (x .area) (withMet x (now (s .entry)) a (v ∷ w ∷ []))) ⌝ }
 {
     let mut left = chain_length(s, x, a);

@@ -12,7 +12,7 @@ use Rattle.mesh.specs.Words.{wordAt, inside, flat}
 use Rattle.mesh.specs.Complex.{keep}
 use Rattle.mesh.specs.Element.{tet, tets, verticesOf, has}
 use Rattle.mesh.specs.inside.List.{gone}
-use Rattle.mesh.specs.inside.Star.{goneTet, gather, cornerAt, lengthOf, slotsMet, laid, roomFor, distinct, written, listed}
+use Rattle.mesh.specs.inside.Star.{goneTet, gather, cornerAt, chainLength, slotsMet, laid, roomFor, distinct, written, listed}
 use Rattle.mesh.specs.Tests.{any}
 
 -- ---- by the scan
@@ -45,7 +45,7 @@ clearOf a m (suc k) p step = (ltb p a || leb m p) && clearOf a m k (p + step) st
 -- how many entries the chains of the vertices have together
 unfoldable pub entriesOf : Index → List ℕ → List ℕ → ℕ
 entriesOf x s [] = 0
-entriesOf x s (v ∷ vs) = lengthOf x s v + entriesOf x s vs
+entriesOf x s (v ∷ vs) = chainLength x s v + entriesOf x s vs
 
 -- the slots where one of them stands, by their chains
 unfoldable pub slotsOf : Index → List ℕ → List ℕ → List ℕ

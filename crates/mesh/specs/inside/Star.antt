@@ -85,12 +85,12 @@ module _ (x : Index) (s : List ℕ) where
   headOf v = wordAt s (x .heads + v)
 
   -- how many entries it has; none where v is no vertex
-  unfoldable pub lengthOf : ℕ → ℕ
-  lengthOf v = cond (ltb v (x .vertices)) (wordAt s (x .lengths + v)) 0
+  unfoldable pub chainLength : ℕ → ℕ
+  chainLength v = cond (ltb v (x .vertices)) (wordAt s (x .lengths + v)) 0
 
   -- v's chain
   unfoldable pub chainOf : ℕ → List ℕ
-  chainOf v = walk (x .room) nextOf (lengthOf v) (headOf v)
+  chainOf v = walk (x .room) nextOf (chainLength v) (headOf v)
 
   -- the slot of the entry p where v stands there now
   unfoldable pub slotIf : ℕ → ℕ → List ℕ
@@ -112,7 +112,7 @@ module _ (x : Index) (s : List ℕ) where
 
   -- a chain has as many entries as its length says, all different and below k, and no entry stands in two
   pub record Chains (k : ℕ) : Type 0 where
-    pub whole : (v : ℕ) → length (chainOf v) ≡ lengthOf v
+    pub whole : (v : ℕ) → length (chainOf v) ≡ chainLength v
     pub once : (v : ℕ) → Nodup (chainOf v)
     pub below : (v p : ℕ) → mem p (chainOf v) ≡ true → p < k
     pub apart : (v w p : ℕ) → mem p (chainOf v) ≡ true → mem p (chainOf w) ≡ true → v ≡ w
@@ -179,7 +179,7 @@ slotsAbout x s v w = slotsMet x s v ++ slotsMet x s (second x v w)
 
 -- room for the star
 unfoldable pub starRoom : Index → List ℕ → ℕ → ℕ → Bool
-starRoom x s v w = roomFor x (length s) (lengthOf x s v + lengthOf x s (second x v w))
+starRoom x s v w = roomFor x (length s) (chainLength x s v + chainLength x s (second x v w))
 
 -- the star, and none where there is no room
 unfoldable pub starList : Index → List ℕ → ℕ → ℕ → List ℕ
@@ -195,7 +195,7 @@ othersMet x s v = gather (othersIf x s v) (chainOf x s v)
 
 -- room for the neighbours
 unfoldable pub neighbourRoom : Index → List ℕ → ℕ → Bool
-neighbourRoom x s v = roomFor x (length s) (4 * lengthOf x s v)
+neighbourRoom x s v = roomFor x (length s) (4 * chainLength x s v)
 
 -- the neighbours, and none where there is no room
 unfoldable pub neighbourList : Index → List ℕ → ℕ → List ℕ
@@ -246,10 +246,10 @@ mayJoin x size b a m n =
 -- the chain of a before that of b, and a's empty
 unfoldable pub joined : Index → ℕ → ℕ → List ℕ → List ℕ
 joined x b a s =
-    cond (mayJoin x (length s) b a (lengthOf x s a) (lengthOf x s b))
+    cond (mayJoin x (length s) b a (chainLength x s a) (chainLength x s b))
     (set
-    (setChain x b (headOf x s a) (lengthOf x s a + lengthOf x s b)
-    (set s (x .nexts + stepped (nextOf x s) (lengthOf x s a - 1) (headOf x s a)) (headOf x s b)))
+    (setChain x b (headOf x s a) (chainLength x s a + chainLength x s b)
+    (set s (x .nexts + stepped (nextOf x s) (chainLength x s a - 1) (headOf x s a)) (headOf x s b)))
     (x .lengths + a)
     0)
     s

@@ -7,7 +7,7 @@ use lib.Dec.{leb}
 use lib.ListN.{length}
 use Rattle.mesh.specs.declared.star.Index.{Index}
 use Rattle.mesh.specs.Complex.{sub}
-use Rattle.mesh.specs.inside.Star.{gather, cornersAt, lengthOf, chainOf, roomFor, distinct, listed}
+use Rattle.mesh.specs.inside.Star.{gather, cornersAt, chainLength, chainOf, roomFor, distinct, listed}
 use Rattle.mesh.specs.Tests.{any}
 
 -- ---- by the index
@@ -15,7 +15,7 @@ use Rattle.mesh.specs.Tests.{any}
 module _ (x : Index) (s : List ℕ) where
   -- the one of v and w whose chain has fewer entries, v where both have as many
   unfoldable pub rarer : ℕ → ℕ → ℕ
-  rarer v w = cond (leb (lengthOf x s v) (lengthOf x s w)) v w
+  rarer v w = cond (leb (chainLength x s v) (chainLength x s w)) v w
 
   -- has the slot of the entry p all of these vertices
   unfoldable pub entryHas : List ℕ → ℕ → Bool
@@ -35,7 +35,7 @@ module _ (x : Index) (s : List ℕ) where
 
   -- room for twice the entries of the shorter chain
   unfoldable pub withRoom : ℕ → ℕ → Bool
-  withRoom v w = roomFor x (length s) (lengthOf x s (rarer v w))
+  withRoom v w = roomFor x (length s) (chainLength x s (rarer v w))
 
   -- the slots that have v and w, in number order, and none where there is no room
   unfoldable pub withList : ℕ → ℕ → List ℕ

@@ -9,7 +9,7 @@ use lib.Seq.{getD-drop}
 use Rattle.geometry.specs.declared.bounds.Options.{Options}
 use Rattle.mesh.specs.declared.star.Index.{Index}
 use Rattle.mesh.specs.Words.{wordAt}
-use Rattle.mesh.specs.inside.Star.{Laid, Complete, chainOf, lengthOf}
+use Rattle.mesh.specs.inside.Star.{Laid, Complete, chainOf, chainLength}
 use Rattle.mesh.proofs.Laws.Star.Chains.{complete-kept}
 use Rattle.mesh.proofs.Laws.Star.Calls.{tets-same}
 use Rattle.repair.specs.Mesh.{Mesh}
@@ -32,14 +32,14 @@ abbrev pub area-at : Index → ℕ → Index
 area-at x a = record { slots = x .slots; nexts = x .nexts; heads = x .heads; lengths = x .lengths; area = a; room = x .room; vertices = x .vertices }
 
 pub complete-at : (x : Index) (a : ℕ) (s : List ℕ) (k : ℕ) → Complete x s k → Complete (area-at x a) s k
-unfolding chainOf lengthOf
+unfolding chainOf chainLength
 complete-at x a s k c = record {
   chains = record { whole = c .chains .whole; once = c .chains .once; below = c .chains .below; apart = c .chains .apart };
   indexed = c .indexed;
 }
 
 complete-from : (x : Index) (a : ℕ) (s : List ℕ) (k : ℕ) → Complete (area-at x a) s k → Complete x s k
-unfolding chainOf lengthOf
+unfolding chainOf chainLength
 complete-from x a s k c = record {
   chains = record { whole = c .chains .whole; once = c .chains .once; below = c .chains .below; apart = c .chains .apart };
   indexed = c .indexed;

@@ -19,7 +19,7 @@ use Rattle.mesh.specs.Sets.{among}
 use Rattle.mesh.specs.Measure.{Measure, measure}
 use Rattle.repair.specs.Mesh.{Mesh}
 use Rattle.repair.specs.Improve.{State, stratumRule, activeGroup, pairOk, pairOff, pairsFor, about, collapsed, gains, mayGo, go, tryEdge, tryEdges}
-use Rattle.repair.specs.inside.Layout.{Room, Stands, Reads, Ready, Same, Pairs, pairsAt, edgesAt, pairsOf, pairsIn, edgesOf, edgesIn}
+use Rattle.repair.specs.inside.Layout.{Room, Stands, Reads, Ready, Same, Pairs, pairsAt, edgesAt, pairsOf, pairsIn, rowEdges, edgesIn}
 use Rattle.repair.specs.inside.improve.Collapse.{Replaces}
 use Rattle.repair.specs.inside.improve.Partners.{activeIn}
 use Rattle.repair.specs.inside.improve.Round.{below, wayOf, MayPair}
@@ -80,8 +80,8 @@ module _ (o : Options) (m : Mesh) (μ : Measure) where
       pick false = refl
 
 -- the rows of edges from the i-th on
-pub edges-from : (k i : ℕ) (s : List ℕ) → i < k → drop i (edgesOf k s) ≡ pair (wordAt s (4 * i + 2)) (wordAt s (4 * i + 3)) ∷ drop (i + 1) (edgesOf k s)
-unfolding edgesOf
+pub edges-from : (k i : ℕ) (s : List ℕ) → i < k → drop i (rowEdges k s) ≡ pair (wordAt s (4 * i + 2)) (wordAt s (4 * i + 3)) ∷ drop (i + 1) (rowEdges k s)
+unfolding rowEdges
 edges-from zero i s h = absurd (omega arith)
 edges-from (suc k) zero s h = refl
 edges-from (suc k) (suc i) s h =
@@ -89,8 +89,8 @@ edges-from (suc k) (suc i) s h =
     let f : 4 + (4 * i + 3) ≡ 4 * suc i + 3 = omega arith in
     let g : suc i + 1 ≡ suc (i + 1) = omega arith in
     edges-from k i (drop 4 s) (omega arith)
-    ∙ ap₂ (λ u v. pair u v ∷ drop (i + 1) (edgesOf k (drop 4 s))) (getD-drop 4 s (4 * i + 2) 0 ∙ ap (wordAt s) e) (getD-drop 4 s (4 * i + 3) 0 ∙ ap (wordAt s) f)
-    ∙ ap (λ u. pair (wordAt s (4 * suc i + 2)) (wordAt s (4 * suc i + 3)) ∷ drop u (edgesOf (suc k) s)) (sym g)
+    ∙ ap₂ (λ u v. pair u v ∷ drop (i + 1) (rowEdges k (drop 4 s))) (getD-drop 4 s (4 * i + 2) 0 ∙ ap (wordAt s) e) (getD-drop 4 s (4 * i + 3) 0 ∙ ap (wordAt s) f)
+    ∙ ap (λ u. pair (wordAt s (4 * suc i + 2)) (wordAt s (4 * suc i + 3)) ∷ drop u (rowEdges (suc k) s)) (sym g)
 
 -- each of the edges from the i-th on passes a test that all pass
 pub every-from : {A : Type 0} (p : A → Bool) (i : ℕ) (l : List A) → every p l ≡ true → every p (drop i l) ≡ true
@@ -99,8 +99,8 @@ every-from p (suc i) [] h = refl
 every-from p (suc i) (x ∷ l) h = every-from p i l (and-snd (p x) (every p l) h)
 
 -- nothing is left behind the last
-pub edges-none : (k : ℕ) (s : List ℕ) → drop k (edgesOf k s) ≡ []
-unfolding edgesOf
+pub edges-none : (k : ℕ) (s : List ℕ) → drop k (rowEdges k s) ≡ []
+unfolding rowEdges
 edges-none zero s = refl
 edges-none (suc k) s = edges-none k (drop 4 s)
 

@@ -74,12 +74,12 @@ abbrev pub pairsIn : Index → ℕ → List ℕ → List Pair
 pairsIn x k w = pairsOf k (drop (pairsAt x) w)
 
 -- the vertices of the first k rows of a list of words, four words each, and of the rows in the edges' area
-unfoldable pub edgesOf : ℕ → List ℕ → List Pair
-edgesOf zero s = []
-edgesOf (suc k) s = pair (wordAt s 2) (wordAt s 3) ∷ edgesOf k (drop 4 s)
+unfoldable pub rowEdges : ℕ → List ℕ → List Pair
+rowEdges zero s = []
+rowEdges (suc k) s = pair (wordAt s 2) (wordAt s 3) ∷ rowEdges k (drop 4 s)
 
 abbrev pub edgesIn : Index → ℕ → List ℕ → List Pair
-edgesIn x k w = edgesOf k (drop (edgesAt x) w)
+edgesIn x k w = rowEdges k (drop (edgesAt x) w)
 
 -- each vertex goes into itself, or no vertex is both the first of a pair and the second of one
 abbrev pub Apart : List Pair → Type 0

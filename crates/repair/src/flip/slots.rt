@@ -14,7 +14,7 @@ ghost use lib.ListN.{set};
 ghost use Rattle.mesh.specs.Intake.{wellNumbered};
 ghost use Rattle.repair.specs.Flip.{State};
 ghost use Rattle.repair.specs.inside.improve.Collapse.{slotAt, putSlot};
-ghost use Rattle.repair.specs.inside.flip.Layout.{Stands, Kept};
+ghost use Rattle.repair.specs.inside.flip.Layout.{SlotsStand, Kept};
 
 // The words of the slot e: an element, or GONE four times.
 pub(crate) fn slot(work: &[u32], x: Index, e: u32) -> Tet
@@ -41,8 +41,8 @@ fn put_slot(work: &mut [u32], x: Index, e: u32, t: Tet)
 // Empties the slot e.
 pub(crate) fn empty_slot(work: &mut [u32], x: Index, e: u32)
     requires { ⌜ x .slots ≤ 1048576 ⌝ }
-    ensures { λ _. ⌜ ((n c : ℕ) (s : State) → e < c → Stands x n c (now (work .entry)) s
-        → Stands x n c (now (work .exit)) (record { slots = set (s .slots) e none; flips = s .flips }) × Kept x (now (work .entry)) (now (work .exit))) ⌝ }
+    ensures { λ _. ⌜ ((n c : ℕ) (s : State) → e < c → SlotsStand x n c (now (work .entry)) s
+        → SlotsStand x n c (now (work .exit)) (record { slots = set (s .slots) e none; flips = s .flips }) × Kept x (now (work .entry)) (now (work .exit))) ⌝ }
 {
     let t = Tet {
         a: GONE,
@@ -56,8 +56,8 @@ pub(crate) fn empty_slot(work: &mut [u32], x: Index, e: u32)
 // Adds a slot with the element t behind the first c.
 pub(crate) fn add_slot(work: &mut [u32], x: Index, c: u32, t: Tet)
     requires { ⌜ (x .slots ≤ 1048576) × (c ≤ 131072) ⌝ }
-    ensures { λ _. ⌜ ((n : ℕ) (s : State) → c < x .room → wellNumbered (x .vertices) t ≡ true → Stands x n c (now (work .entry)) s
-        → Stands x n (c + 1) (now (work .exit)) (record { slots = s .slots ++ (some t ∷ []); flips = s .flips }) × Kept x (now (work .entry)) (now (work .exit))) ⌝ }
+    ensures { λ _. ⌜ ((n : ℕ) (s : State) → c < x .room → wellNumbered (x .vertices) t ≡ true → SlotsStand x n c (now (work .entry)) s
+        → SlotsStand x n (c + 1) (now (work .exit)) (record { slots = s .slots ++ (some t ∷ []); flips = s .flips }) × Kept x (now (work .entry)) (now (work .exit))) ⌝ }
 {
     put_slot(work, x, c, t);
     append(work, x, c, c + 1);

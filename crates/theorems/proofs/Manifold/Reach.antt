@@ -20,15 +20,15 @@ use Rattle.theorems.proofs.Manifold.Ends.{degree, NoLoops, endsIn, ends
 -- ---- what the search keeps
 
 -- what holds of a set of vertices, and holds on with the other end of a pair that has one end in it, holds of all that is reached
-pub record Kept (es : List Pair) (P : List ℕ → Type 0) : Type 0 where
+pub record HoldsOn (es : List Pair) (P : List ℕ → Type 0) : Type 0 where
   pub right : (e : Pair) (seen : List ℕ) → List·Memᴰ e es → P seen → mem (e .a) seen ≡ true → mem (e .b) seen ≡ false → P (e .b ∷ seen)
   pub left : (e : Pair) (seen : List ℕ) → List·Memᴰ e es → P seen → mem (e .b) seen ≡ true → mem (e .a) seen ≡ false → P (e .a ∷ seen)
 
-grow-keeps : (P : List ℕ → Type 0) (es : List Pair) (seen : List ℕ) → Kept es P → P seen → P (grow es seen)
+grow-keeps : (P : List ℕ → Type 0) (es : List Pair) (seen : List ℕ) → HoldsOn es P → P seen → P (grow es seen)
 unfolding grow
 grow-keeps P [] seen k p = p
 grow-keeps P (e ∷ es) seen k p =
-    let later : Kept es P = record { right = λ f s m. k .right f s (List·Memᴰ·tail m); left = λ f s m. k .left f s (List·Memᴰ·tail m) } in
+    let later : HoldsOn es P = record { right = λ f s m. k .right f s (List·Memᴰ·tail m); left = λ f s m. k .left f s (List·Memᴰ·tail m) } in
     elim (split (mem (e .a) seen && not (mem (e .b) seen))) [
       | inl h ↦ rw h (grow-keeps P es (e .b ∷ seen) later
           (k .right e seen (List·Memᴰ·head refl) p (and-fst (mem (e .a) seen) (not (mem (e .b) seen)) h) (not-true (mem (e .b) seen) (and-snd (mem (e .a) seen) (not (mem (e .b) seen)) h))))
@@ -39,17 +39,17 @@ grow-keeps P (e ∷ es) seen k p =
       ])
     ]
 
-reach-keeps : (P : List ℕ → Type 0) (n : ℕ) (es : List Pair) (seen : List ℕ) → Kept es P → P seen → P (reach n es seen)
+reach-keeps : (P : List ℕ → Type 0) (n : ℕ) (es : List Pair) (seen : List ℕ) → HoldsOn es P → P seen → P (reach n es seen)
 unfolding reach
 reach-keeps P zero es seen k p = p
 reach-keeps P (suc n) es seen k p = reach-keeps P n es (grow es seen) k (grow-keeps P es seen k p)
 
 -- no vertex twice
-nodup-kept : (es : List Pair) → Kept es Nodup
+nodup-kept : (es : List Pair) → HoldsOn es Nodup
 nodup-kept es = record { right = λ e seen m p h o. (o, p); left = λ e seen m p h o. (o, p) }
 
 -- a vertex stays
-member-kept : (x : ℕ) (es : List Pair) → Kept es (λ seen. mem x seen ≡ true)
+member-kept : (x : ℕ) (es : List Pair) → HoldsOn es (λ seen. mem x seen ≡ true)
 member-kept x es = record { right = λ e seen m p h o. mem-there x (e .b) seen p; left = λ e seen m p h o. mem-there x (e .a) seen p }
 
 -- what a pair carries from either end to the other
@@ -57,7 +57,7 @@ pub record Carried (es : List Pair) (J : ℕ → Type 0) : Type 0 where
   pub there : (e : Pair) → List·Memᴰ e es → J (e .a) → J (e .b)
   pub back : (e : Pair) → List·Memᴰ e es → J (e .b) → J (e .a)
 
-carried-kept : (J : ℕ → Type 0) (es : List Pair) → Carried es J → Kept es (λ seen. (x : ℕ) → mem x seen ≡ true → J x)
+carried-kept : (J : ℕ → Type 0) (es : List Pair) → Carried es J → HoldsOn es (λ seen. (x : ℕ) → mem x seen ≡ true → J x)
 carried-kept J es c = record {
   right = λ e seen m p h o x k. more (e .b) seen (c .there e m (p (e .a) h)) p x k;
   left = λ e seen m p h o x k. more (e .a) seen (c .back e m (p (e .b) h)) p x k;

@@ -13,7 +13,7 @@ use Rattle.mesh.specs.declared.star.Index.{Index}
 use Rattle.mesh.specs.Words.{wordAt}
 use Rattle.mesh.specs.Complex.{mem}
 use Rattle.mesh.specs.Element.{tets, has}
-use Rattle.mesh.specs.inside.Star.{goneTet, gather, lengthOf, slotsMet, Complete, Laid, Free, roomFor, distinct, written, listed}
+use Rattle.mesh.specs.inside.Star.{goneTet, gather, chainLength, slotsMet, Complete, Laid, Free, roomFor, distinct, written, listed}
 use Rattle.mesh.specs.inside.About.{hasOne, starAll, members, clearOf, entriesOf, slotsOf, aboutRoom, aboutList, aboutIn}
 use Rattle.mesh.proofs.Laws.Bools.{and-intro, and-left, and-right}
 use Rattle.mesh.proofs.Laws.Complex.Sets.{same, or-cases}
@@ -96,11 +96,11 @@ module _ {x : Index} {all s₀ s : List ℕ} {step p left n : ℕ} (l : Laid x (
     these : members left p step s₀ ≡ v ∷ members (left - 1) (p + step) step s₀
     these = members-first left p step s₀ some ∙ ap (λ (u : ℕ). u ∷ members (left - 1) (p + step) step s₀) (sym member)
 
-    sum : entriesOf x s₀ (members left p step s₀) ≡ lengthOf x s₀ v + entriesOf x s₀ (members (left - 1) (p + step) step s₀)
+    sum : entriesOf x s₀ (members left p step s₀) ≡ chainLength x s₀ v + entriesOf x s₀ (members (left - 1) (p + step) step s₀)
     sum = ap (entriesOf x s₀) these ∙ entries-first x s₀ v (members (left - 1) (p + step) step s₀)
 
     -- room for its slots
-    pub put-free : Free x s (x .area + n) (lengthOf x s v)
+    pub put-free : Free x s (x .area + n) (chainLength x s v)
     put-free = record {
       laid = subst (Laid x) (sym put-long) l;
       behind = omega arith;

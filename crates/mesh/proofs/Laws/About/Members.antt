@@ -12,7 +12,7 @@ use borrow.Author.Tests.{le-leb, lt-leb, lt-ltb}
 use Rattle.mesh.specs.declared.star.Index.{Index}
 use Rattle.mesh.specs.Words.{wordAt}
 use Rattle.mesh.specs.Complex.{mem, Nodup}
-use Rattle.mesh.specs.inside.Star.{gather, lengthOf, chainOf, slotsMet, Chains, Laid, laid, roomFor}
+use Rattle.mesh.specs.inside.Star.{gather, chainLength, chainOf, slotsMet, Chains, Laid, laid, roomFor}
 use Rattle.mesh.specs.inside.About.{members, clearOf, entriesOf, slotsOf, aboutRoom}
 use Rattle.mesh.proofs.Laws.Bools.{split, and-intro}
 use Rattle.mesh.proofs.Laws.Complex.Sets.{clash, or-left, or-right}
@@ -95,7 +95,7 @@ members-at (suc k) p step s (suc i) h =
 -- ---- entries
 
 module _ (x : Index) (s : List ℕ) where
-  pub entries-first : (v : ℕ) (vs : List ℕ) → entriesOf x s (v ∷ vs) ≡ lengthOf x s v + entriesOf x s vs
+  pub entries-first : (v : ℕ) (vs : List ℕ) → entriesOf x s (v ∷ vs) ≡ chainLength x s v + entriesOf x s vs
   unfolding entriesOf
   entries-first v vs = refl
 
@@ -179,11 +179,11 @@ module _ {x : Index} {s : List ℕ} {from count step p left n : ℕ} (e : laid x
         let T = entriesOf x s (members count from step s) in
         elim (split (roomFor x m T)) [ inl q ↦ rw (q, b) refl | inr q ↦ rw q refl ]
 
-    module _ (ok : (ltb p (x .area) || leb (length s) p) ≡ true) (i : ℕ) (ei : i ≡ lengthOf x s (wordAt s p)) where
+    module _ (ok : (ltb p (x .area) || leb (length s) p) ≡ true) (i : ℕ) (ei : i ≡ chainLength x s (wordAt s p)) where
       more : n + i + entriesOf x s (members (left - 1) (p + step) step s) ≡ entriesOf x s (members count from step s)
       more =
           let a = g .sum in
-          let b : entriesOf x s (members left p step s) ≡ lengthOf x s (wordAt s p) + entriesOf x s (members (left - 1) (p + step) step s) =
+          let b : entriesOf x s (members left p step s) ≡ chainLength x s (wordAt s p) + entriesOf x s (members (left - 1) (p + step) step s) =
           ap (entriesOf x s) (members-first left p step s some) ∙ entries-first x s (wordAt s p) (members (left - 1) (p + step) step s) in
           omega arith
 

@@ -9,7 +9,7 @@ use lib.Seq.{take-at, take-take}
 use borrow.Author.Tests.{eq-eqb, ne-eqb}
 use Rattle.mesh.specs.declared.star.Index.{Index}
 use Rattle.mesh.specs.Words.{wordAt}
-use Rattle.mesh.specs.inside.Star.{lengthOf, Laid, Free, roomFor, second, slotsMet, slotsAbout, starRoom, starList, starred, othersMet, neighbourRoom, neighbourList, neighboured, distinct, written, listed}
+use Rattle.mesh.specs.inside.Star.{chainLength, Laid, Free, roomFor, second, slotsMet, slotsAbout, starRoom, starList, starred, othersMet, neighbourRoom, neighbourList, neighboured, distinct, written, listed}
 use Rattle.mesh.proofs.Laws.Star.Layout.{room-is}
 use Rattle.mesh.proofs.Laws.Star.Written.{length-written, written-below, written-behind, written-part, written-more, written-over}
 use Rattle.mesh.proofs.Laws.Star.Chains.{length-kept}
@@ -81,14 +81,14 @@ module _ (s : List ℕ) (k : ℕ) (us : List ℕ) (h : k + (length us + length u
 pub about-short : (x : Index) (s : List ℕ) (v w : ℕ) → starRoom x s v w ≡ true → x .area + (length (slotsAbout x s v w) + length (slotsAbout x s v w)) ≤ length s
 unfolding starRoom slotsAbout
 about-short x s v w e =
-    let r = room-is x (length s) (lengthOf x s v + lengthOf x s (second x v w)) e .1 in
+    let r = room-is x (length s) (chainLength x s v + chainLength x s (second x v w)) e .1 in
     omega (arith, slots-short x s v, slots-short x s (second x v w), length-append (slotsMet x s v) (slotsMet x s (second x v w)))
 
-module _ (x : Index) (s : List ℕ) (v w u n a b : ℕ) (eu : u ≡ second x v w) (ea : a ≡ lengthOf x s v) (eb : b ≡ lengthOf x s u) (en : n ≡ a + b) where
+module _ (x : Index) (s : List ℕ) (v w u n a b : ℕ) (eu : u ≡ second x v w) (ea : a ≡ chainLength x s v) (eb : b ≡ chainLength x s u) (en : n ≡ a + b) where
   test : (t : Bool) → roomFor x (length s) n ≡ t → starRoom x s v w ≡ t
   unfolding starRoom
   test t e =
-      let q : n ≡ lengthOf x s v + lengthOf x s (second x v w) = en ∙ ap₂ (λ (i j : ℕ). i + j) ea (eb ∙ ap (lengthOf x s) eu) in
+      let q : n ≡ chainLength x s v + chainLength x s (second x v w) = en ∙ ap₂ (λ (i j : ℕ). i + j) ea (eb ∙ ap (chainLength x s) eu) in
       sym (ap (roomFor x (length s)) q) ∙ e
 
   pub star-none : roomFor x (length s) n ≡ false → (0 ≡ length (starList x s v w)) × (s ≡ starred x s v w)
@@ -102,13 +102,13 @@ module _ (x : Index) (s : List ℕ) (v w u n a b : ℕ) (eu : u ≡ second x v w
     room : x .area + (n + n) ≤ length s
     room = room-is x (length s) n er .1
 
-    pub star-free : Free x s (x .area) (lengthOf x s v)
+    pub star-free : Free x s (x .area) (chainLength x s v)
     star-free = record { laid = l; behind = omega arith; fits = omega (arith, room) }
 
-    few-v : length (slotsMet x s v) ≤ lengthOf x s v
+    few-v : length (slotsMet x s v) ≤ chainLength x s v
     few-v = slots-short x s v
 
-    few-u : length (slotsMet x s u) ≤ lengthOf x s u
+    few-u : length (slotsMet x s u) ≤ chainLength x s u
     few-u = slots-short x s u
 
     module _ (i : ℕ) (s₁ : List ℕ) (ei : i ≡ length (slotsMet x s v)) (e₁ : s₁ ≡ written s (x .area) (slotsMet x s v)) where
@@ -124,7 +124,7 @@ module _ (x : Index) (s : List ℕ) (v w u n a b : ℕ) (eu : u ≡ second x v w
       pub star-few : i ≤ a
       star-few = omega (arith, few-v)
 
-      pub star-free-2 : Free x s₁ (x .area + i) (lengthOf x s₁ u)
+      pub star-free-2 : Free x s₁ (x .area + i) (chainLength x s₁ u)
       star-free-2 = record {
         laid = subst (Laid x) (sym long₁) l;
         behind = omega arith;
@@ -170,17 +170,17 @@ module _ (x : Index) (s : List ℕ) (v w u n a b : ℕ) (eu : u ≡ second x v w
 
 -- ---- the neighbours
 
-module _ (x : Index) (s : List ℕ) (v n a : ℕ) (ea : a ≡ lengthOf x s v) (en : n ≡ 4 * a) where
+module _ (x : Index) (s : List ℕ) (v n a : ℕ) (ea : a ≡ chainLength x s v) (en : n ≡ 4 * a) where
   test-2 : (t : Bool) → roomFor x (length s) n ≡ t → neighbourRoom x s v ≡ t
   unfolding neighbourRoom
-  test-2 t e = let q : n ≡ 4 * lengthOf x s v = en ∙ ap (λ (i : ℕ). 4 * i) ea in sym (ap (roomFor x (length s)) q) ∙ e
+  test-2 t e = let q : n ≡ 4 * chainLength x s v = en ∙ ap (λ (i : ℕ). 4 * i) ea in sym (ap (roomFor x (length s)) q) ∙ e
 
   pub neighbours-none : roomFor x (length s) n ≡ false → (0 ≡ length (neighbourList x s v)) × (s ≡ neighboured x s v)
   unfolding neighbourList neighboured
   neighbours-none e = (rw (test-2 false e), rw (test-2 false e))
 
   module _ (er : roomFor x (length s) n ≡ true) where
-    pub neighbours-free : Free x s (x .area) (4 * lengthOf x s v)
+    pub neighbours-free : Free x s (x .area) (4 * chainLength x s v)
     neighbours-free = let h = room-is x (length s) n er in record { laid = h .0; behind = omega arith; fits = let g = h .1 in omega arith }
 
     module _ (k : ℕ) (s₁ : List ℕ) (ek : k ≡ length (othersMet x s v)) (e₁ : s₁ ≡ written s (x .area) (othersMet x s v)) where

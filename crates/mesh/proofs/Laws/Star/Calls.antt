@@ -12,7 +12,7 @@ use lib.Seq.{getD-drop}
 use Rattle.mesh.specs.declared.star.Index.{Index}
 use Rattle.mesh.specs.Words.{wordAt}
 use Rattle.mesh.specs.Element.{tets}
-use Rattle.mesh.specs.inside.Star.{starOf, neighboursOf, cornerAt, lengthOf, Complete, Laid, slotsAbout, starRoom, starList, starred, othersMet, neighbourRoom, neighbourList, neighboured, distinct, listed}
+use Rattle.mesh.specs.inside.Star.{starOf, neighboursOf, cornerAt, chainLength, Complete, Laid, slotsAbout, starRoom, starList, starred, othersMet, neighbourRoom, neighbourList, neighboured, distinct, listed}
 pub use Rattle.mesh.proofs.Laws.Intake.Reads.{tets-same}
 use Rattle.mesh.proofs.Laws.Star.Layout.{room-is}
 use Rattle.mesh.proofs.Laws.Star.Chains.{complete-kept}
@@ -60,7 +60,7 @@ module _ (x : Index) (s : List ℕ) (n : ℕ) (l : Laid x (length s)) (hn : n �
         let f : distinct us ≡ neighboursOf v (tets n (drop (x .slots) s)) =
         sym (ap (λ (b : Bool). cond b (distinct us) []) r) ∙ neighbours-found x s n (c .chains) v l fit (c .indexed v hv) in
         let h : x .area + (length us + length us) ≤ length s =
-        let g = all-others-short x s v in let q = room-is x (length s) (4 * lengthOf x s v) r .1 in omega arith in
+        let g = all-others-short x s v in let q = room-is x (length s) (4 * chainLength x s v) r .1 in omega arith in
         let e : cond (neighbourRoom x s v) (listed s (x .area) us) s ≡ listed s (x .area) us = ap (λ (b : Bool). cond b (listed s (x .area) us) s) r in
         subst (λ (t : List ℕ). Answered s t (x .area) (neighboursOf v (tets n (drop (x .slots) s)))) (sym e)
         (subst (Answered s (listed s (x .area) us) (x .area)) f

@@ -10,7 +10,7 @@ use borrow.Author.Tests.{lt-ltb, le-ltb}
 use Rattle.mesh.specs.declared.star.Index.{Index}
 use Rattle.mesh.specs.Words.{wordAt}
 use Rattle.mesh.specs.Complex.{mem, upTo, Nodup}
-use Rattle.mesh.specs.inside.Star.{walk, cornerAt, nextOf, headOf, lengthOf, chainOf, Covers, Chains, Complete, Laid}
+use Rattle.mesh.specs.inside.Star.{walk, cornerAt, nextOf, headOf, chainLength, chainOf, Covers, Chains, Complete, Laid}
 use Rattle.mesh.proofs.Laws.Parts.{side}
 use Rattle.mesh.proofs.Laws.Complex.Sets.{clash, nope, mem-here, mem-there, mem-cases, mem-nil, short}
 use Rattle.mesh.proofs.Laws.Complex.Tets.{upTo-mem}
@@ -49,32 +49,32 @@ few-below k ps d h = let r = short ps (upTo k) d (λ p m. upTo-mem k p (h p m)) 
 
 -- ---- what is no vertex has no chain
 
-pub length-none : (x : Index) (s : List ℕ) (v : ℕ) → x .vertices ≤ v → lengthOf x s v ≡ 0
-unfolding lengthOf
+pub length-none : (x : Index) (s : List ℕ) (v : ℕ) → x .vertices ≤ v → chainLength x s v ≡ 0
+unfolding chainLength
 length-none x s v h = rw (le-ltb v (x .vertices) h)
 
-pub length-vertex : (x : Index) (s : List ℕ) (v : ℕ) → v < x .vertices → lengthOf x s v ≡ wordAt s (x .lengths + v)
-unfolding lengthOf
+pub length-vertex : (x : Index) (s : List ℕ) (v : ℕ) → v < x .vertices → chainLength x s v ≡ wordAt s (x .lengths + v)
+unfolding chainLength
 length-vertex x s v h = rw (lt-ltb v (x .vertices) h)
 
-pub chain-none : (x : Index) (s : List ℕ) (v : ℕ) → lengthOf x s v ≡ 0 → chainOf x s v ≡ []
+pub chain-none : (x : Index) (s : List ℕ) (v : ℕ) → chainLength x s v ≡ 0 → chainOf x s v ≡ []
 unfolding chainOf
 chain-none x s v h = rw h (walk-none (x .room) (nextOf x s) (headOf x s v))
 
 pub chain-entry : (x : Index) (s : List ℕ) (v p : ℕ) → mem p (chainOf x s v) ≡ true → p / 4 < x .room
 unfolding chainOf
-chain-entry x s v p m = walk-entry (x .room) (nextOf x s) (lengthOf x s v) (headOf x s v) p m
+chain-entry x s v p m = walk-entry (x .room) (nextOf x s) (chainLength x s v) (headOf x s v) p m
 
 -- ---- the same chain in two slices
 
-pub chain-agree : (x : Index) (s t : List ℕ) (v : ℕ) → lengthOf x t v ≡ lengthOf x s v → headOf x t v ≡ headOf x s v
+pub chain-agree : (x : Index) (s t : List ℕ) (v : ℕ) → chainLength x t v ≡ chainLength x s v → headOf x t v ≡ headOf x s v
     → ((p : ℕ) → mem p (chainOf x s v) ≡ true → nextOf x t p ≡ nextOf x s p) → chainOf x t v ≡ chainOf x s v
 unfolding chainOf
 chain-agree x s t v l h n =
-    ap₂ (λ (k p : ℕ). walk (x .room) (nextOf x t) k p) l h ∙ walk-same (x .room) (nextOf x s) (nextOf x t) (lengthOf x s v) (headOf x s v) n
+    ap₂ (λ (k p : ℕ). walk (x .room) (nextOf x t) k p) l h ∙ walk-same (x .room) (nextOf x s) (nextOf x t) (chainLength x s v) (headOf x s v) n
 
 module _ (x : Index) (s t : List ℕ) {m : ℕ} (l : Laid x m) (same : (j : ℕ) → x .nexts ≤ j → j < x .area → wordAt t j ≡ wordAt s j) where
-  pub length-kept : (v : ℕ) → lengthOf x t v ≡ lengthOf x s v
+  pub length-kept : (v : ℕ) → chainLength x t v ≡ chainLength x s v
   length-kept v =
       ⊎-elim
       (λ h. length-vertex x t v h ∙ same (x .lengths + v) (omega arith) (omega arith) ∙ sym (length-vertex x s v h))
@@ -115,10 +115,10 @@ module _ (x : Index) (s t : List ℕ) {m : ℕ} (l : Laid x m) (same : (j : ℕ)
 -- ---- how long chains are
 
 module _ (x : Index) (s : List ℕ) (k : ℕ) (c : Chains x s k) where
-  pub one-short : (v : ℕ) → lengthOf x s v ≤ k
+  pub one-short : (v : ℕ) → chainLength x s v ≤ k
   one-short v = let r = few-below k (chainOf x s v) (c .once v) (c .below v) in omega (arith, c .whole v)
 
-  pub two-short : (v w : ℕ) → v ≢ w → lengthOf x s v + lengthOf x s w ≤ k
+  pub two-short : (v w : ℕ) → v ≢ w → chainLength x s v + chainLength x s w ≤ k
   two-short v w n =
       let a = chainOf x s v in
       let b = chainOf x s w in

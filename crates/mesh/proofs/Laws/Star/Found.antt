@@ -13,7 +13,7 @@ use Rattle.mesh.specs.declared.element.Tet.{Tet}
 use Rattle.mesh.specs.declared.star.Index.{Index}
 use Rattle.mesh.specs.Complex.{mem}
 use Rattle.mesh.specs.Element.{tets, verticesOf, has}
-use Rattle.mesh.specs.inside.Star.{starOf, goneTet, butFor, othersOf, neighboursOf, gather, cornerAt, cornersAt, lengthOf, chainOf, slotIf, othersIf, Indexed, Chains, Laid, second, slotsMet, slotsAbout, starRoom, starList, othersMet, neighbourRoom, neighbourList}
+use Rattle.mesh.specs.inside.Star.{starOf, goneTet, butFor, othersOf, neighboursOf, gather, cornerAt, cornersAt, chainLength, chainOf, slotIf, othersIf, Indexed, Chains, Laid, second, slotsMet, slotsAbout, starRoom, starList, othersMet, neighbourRoom, neighbourList}
 use Rattle.mesh.proofs.Laws.Complex.Sets.{split, same, or-cases, or-left, or-right, mem-here, mem-there, mem-cases, mem-nil}
 use Rattle.mesh.proofs.Laws.Star.Layout.{room-yes}
 use Rattle.mesh.proofs.Laws.Star.Chains.{mem-left, mem-right, mem-either, length-none, chain-none, one-short, two-short}
@@ -166,10 +166,10 @@ module _ (x : Index) (s : List ℕ) where
       pub star-room : starRoom x s v w ≡ true
       unfolding starRoom
       star-room =
-          room-yes x (length s) (lengthOf x s v + lengthOf x s (second x v w)) l
+          room-yes x (length s) (chainLength x s v + chainLength x s (second x v w)) l
           (elim (second-cases v w) [
-            | inl e ↦ let a = one-short x s (4 * n) c v in let b : lengthOf x s (second x v w) ≡ 0 = ap (lengthOf x s) (e .1) ∙ length-none x s (x .vertices) (omega arith) in omega arith
-            | inr e ↦ let a = two-short x s (4 * n) c v w (e .0) in let b : lengthOf x s (second x v w) ≡ lengthOf x s w = ap (lengthOf x s) (e .1) in omega arith
+            | inl e ↦ let a = one-short x s (4 * n) c v in let b : chainLength x s (second x v w) ≡ 0 = ap (chainLength x s) (e .1) ∙ length-none x s (x .vertices) (omega arith) in omega arith
+            | inr e ↦ let a = two-short x s (4 * n) c v w (e .0) in let b : chainLength x s (second x v w) ≡ chainLength x s w = ap (chainLength x s) (e .1) in omega arith
           ])
 
       module _ (iv : Indexed x s (4 * n) v) (iw : Indexed x s (4 * n) w) where
@@ -218,7 +218,7 @@ module _ (x : Index) (s : List ℕ) where
     module _ (v : ℕ) (l : Laid x (length s)) (fit : x .area + (16 * n + 16 * n) ≤ length s) where
       pub neighbour-room : neighbourRoom x s v ≡ true
       unfolding neighbourRoom
-      neighbour-room = room-yes x (length s) (4 * lengthOf x s v) l (let a = one-short x s (4 * n) c v in omega arith)
+      neighbour-room = room-yes x (length s) (4 * chainLength x s v) l (let a = one-short x s (4 * n) c v in omega arith)
 
       module _ (iv : Indexed x s (4 * n) v) where
         -- the other vertices by the chain are those by the scan

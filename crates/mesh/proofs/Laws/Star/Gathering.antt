@@ -10,7 +10,7 @@ use borrow.Author.Tests.{eq-eqb, ne-eqb}
 use Rattle.mesh.specs.declared.star.Index.{Index}
 use Rattle.mesh.specs.Words.{wordAt}
 use Rattle.mesh.specs.Complex.{mem}
-use Rattle.mesh.specs.inside.Star.{walk, gather, cornerAt, cornersAt, nextOf, headOf, lengthOf, chainOf, butFor, slotIf, othersIf, slotsMet, othersMet, written, Laid, Free}
+use Rattle.mesh.specs.inside.Star.{walk, gather, cornerAt, cornersAt, nextOf, headOf, chainLength, chainOf, butFor, slotIf, othersIf, slotsMet, othersMet, written, Laid, Free}
 use Rattle.mesh.proofs.Laws.Rows.{one-row}
 use Rattle.mesh.proofs.Laws.Complex.Sets.{mem-here, mem-there}
 use Rattle.mesh.proofs.Laws.Star.Walks.{walk-yes, walk-no, walk-none, walk-short}
@@ -87,15 +87,15 @@ unfolding gather
 gather-short f w [] h = omega arith
 gather-short f w (p ∷ ps) h = omega (arith, length-append (f p) (gather f ps), h p, gather-short f w ps h)
 
-pub chain-short : (x : Index) (s : List ℕ) (v : ℕ) → length (chainOf x s v) ≤ lengthOf x s v
+pub chain-short : (x : Index) (s : List ℕ) (v : ℕ) → length (chainOf x s v) ≤ chainLength x s v
 unfolding chainOf
-chain-short x s v = walk-short (x .room) (nextOf x s) (lengthOf x s v) (headOf x s v)
+chain-short x s v = walk-short (x .room) (nextOf x s) (chainLength x s v) (headOf x s v)
 
-pub slots-short : (x : Index) (s : List ℕ) (v : ℕ) → length (slotsMet x s v) ≤ lengthOf x s v
+pub slots-short : (x : Index) (s : List ℕ) (v : ℕ) → length (slotsMet x s v) ≤ chainLength x s v
 unfolding slotsMet
 slots-short x s v = omega (arith, gather-short (slotIf x s v) 1 (chainOf x s v) (slot-short x v s), chain-short x s v)
 
-pub all-others-short : (x : Index) (s : List ℕ) (v : ℕ) → length (othersMet x s v) ≤ 4 * lengthOf x s v
+pub all-others-short : (x : Index) (s : List ℕ) (v : ℕ) → length (othersMet x s v) ≤ 4 * chainLength x s v
 unfolding othersMet
 all-others-short x s v = omega (arith, gather-short (othersIf x s v) 4 (chainOf x s v) (others-short x v s), chain-short x s v)
 
@@ -277,7 +277,7 @@ others-put x s v p k u h eu e a b c d k₁ k₂ k₃ k₄ s₁ s₂ s₃ s₄ ea
 
 -- ---- the two loops begin
 
-pub slots-start : (x : Index) (s : List ℕ) (v k left p : ℕ) → Free x s k (lengthOf x s v) → left ≡ lengthOf x s v → p ≡ headOf x s v
+pub slots-start : (x : Index) (s : List ℕ) (v k left p : ℕ) → Free x s k (chainLength x s v) → left ≡ chainLength x s v → p ≡ headOf x s v
     → Gathering x (λ t q. slotIf x t v q) 1 k (slotsMet x s v) s s p left 0
 unfolding slotsMet chainOf
 slots-start x s v k left p fr el ep =
@@ -285,7 +285,7 @@ slots-start x s v k left p fr el ep =
     (ap₂ (λ (i j : ℕ). gather (slotIf x s v) (walk (x .room) (nextOf x s) i j)) el ep)
     (gather-start x (λ t q. slotIf x t v q) 1 k s p left (let h = fr .fits in omega arith))
 
-pub others-start : (x : Index) (s : List ℕ) (v k left p : ℕ) → Free x s k (4 * lengthOf x s v) → left ≡ lengthOf x s v → p ≡ headOf x s v
+pub others-start : (x : Index) (s : List ℕ) (v k left p : ℕ) → Free x s k (4 * chainLength x s v) → left ≡ chainLength x s v → p ≡ headOf x s v
     → Gathering x (λ t q. othersIf x t v q) 4 k (othersMet x s v) s s p left 0
 unfolding othersMet chainOf
 others-start x s v k left p fr el ep =

@@ -15,7 +15,7 @@ use borrow.Author.Tests.{lt-ltb, ltb-true, le-leb, eqb-true, eqb-false}
 use Rattle.mesh.specs.declared.star.Index.{Index}
 use Rattle.mesh.specs.Words.{wordAt}
 use Rattle.mesh.specs.Complex.{mem, Nodup}
-use Rattle.mesh.specs.inside.Star.{walk, cornerAt, nextOf, headOf, lengthOf, chainOf, Chains, Complete, Laid, Outside, written, setChain, pushed, hung, hungAll, hasSlots, appended, built}
+use Rattle.mesh.specs.inside.Star.{walk, cornerAt, nextOf, headOf, chainLength, chainOf, Chains, Complete, Laid, Outside, written, setChain, pushed, hung, hungAll, hasSlots, appended, built}
 use Rattle.mesh.proofs.Laws.Parts.{side}
 use Rattle.mesh.proofs.Laws.Complex.Sets.{split, clash, nope, mem-here, mem-there, mem-cases, mem-nil}
 use Rattle.mesh.proofs.Laws.Star.Walks.{walk-yes, walk-same}
@@ -67,7 +67,7 @@ module _ (x : Index) (s : List ℕ) (v p : ℕ) (l : Laid x (length s)) (hv : v 
       getD-set-other (set s₁ (x .heads + v) p) (x .lengths + v) (x .heads + v) n 0 (λ e. omega arith)
       ∙ getD-set-same s₁ (x .heads + v) p 0 (omega (arith, length-set s (x .nexts + p) (headOf x s v)))
 
-  length-at : lengthOf x (pushed x v p s) v ≡ suc (lengthOf x s v)
+  length-at : chainLength x (pushed x v p s) v ≡ suc (chainLength x s v)
   unfolding pushed setChain
   length-at =
       let n = wordAt s (x .lengths + v) + 1 in
@@ -78,10 +78,10 @@ module _ (x : Index) (s : List ℕ) (v p : ℕ) (l : Laid x (length s)) (hv : v 
       ∙ add-one (wordAt s (x .lengths + v))
       ∙ ap suc (sym (length-vertex x s v hv))
 
-  length-other : (c : ℕ) → c ≢ v → lengthOf x (pushed x v p s) c ≡ lengthOf x s c
+  length-other : (c : ℕ) → c ≢ v → chainLength x (pushed x v p s) c ≡ chainLength x s c
   length-other c n = ⊎-elim yes (λ h. length-none x (pushed x v p s) c h ∙ sym (length-none x s c h)) (side c (x .vertices))
     where
-      yes : c < x .vertices → lengthOf x (pushed x v p s) c ≡ lengthOf x s c
+      yes : c < x .vertices → chainLength x (pushed x v p s) c ≡ chainLength x s c
       yes h =
           length-vertex x (pushed x v p s) c h
           ∙ read (x .lengths + c) (λ e. omega arith) (λ e. omega arith) (λ e. n (omega arith))
@@ -100,10 +100,10 @@ module _ (x : Index) (s : List ℕ) (v p : ℕ) (l : Laid x (length s)) (hv : v 
     unfolding chainOf
     pushed-chain =
         ap₂ (λ (n q : ℕ). walk (x .room) (nextOf x (pushed x v p s)) n q) length-at head-at
-        ∙ walk-yes (x .room) (nextOf x (pushed x v p s)) (lengthOf x s v) p hp
+        ∙ walk-yes (x .room) (nextOf x (pushed x v p s)) (chainLength x s v) p hp
         ∙ ap (λ (u : List ℕ). p ∷ u)
-        (ap (λ (q : ℕ). walk (x .room) (nextOf x (pushed x v p s)) (lengthOf x s v) q) next-at
-        ∙ walk-same (x .room) (nextOf x s) (nextOf x (pushed x v p s)) (lengthOf x s v) (headOf x s v) (entry-next v))
+        (ap (λ (q : ℕ). walk (x .room) (nextOf x (pushed x v p s)) (chainLength x s v) q) next-at
+        ∙ walk-same (x .room) (nextOf x s) (nextOf x (pushed x v p s)) (chainLength x s v) (headOf x s v) (entry-next v))
 
     -- the others are as they were
     pub pushed-other : (u : ℕ) → u ≢ v → chainOf x (pushed x v p s) u ≡ chainOf x s u
@@ -145,9 +145,9 @@ module _ (x : Index) (s : List ℕ) (v p : ℕ) (l : Laid x (length s)) (hv : v 
       apart = λ u w q m n. apart u w q (now u q m) (now w q n);
     }
       where
-        whole : (u : ℕ) → (eqb u v ≡ true) ⊎ (eqb u v ≡ false) → length (chainOf x (pushed x v p s) u) ≡ lengthOf x (pushed x v p s) u
+        whole : (u : ℕ) → (eqb u v ≡ true) ⊎ (eqb u v ≡ false) → length (chainOf x (pushed x v p s) u) ≡ chainLength x (pushed x v p s) u
         whole u (inl e) =
-            subst (λ (z : ℕ). length (chainOf x (pushed x v p s) z) ≡ lengthOf x (pushed x v p s) z) (sym (eqb-true u v e))
+            subst (λ (z : ℕ). length (chainOf x (pushed x v p s) z) ≡ chainLength x (pushed x v p s) z) (sym (eqb-true u v e))
             (ap length pushed-chain ∙ ap suc (c .whole v) ∙ sym length-at)
         whole u (inr e) = ap length (pushed-other u (eqb-false u v e)) ∙ c .whole u ∙ sym (length-other u (eqb-false u v e))
 
@@ -299,7 +299,7 @@ module _ (x : Index) (n : ℕ) (s : List ℕ) (l : Laid x (length s)) (hn : n �
   length-start : length start ≡ length s
   length-start = length-written s (x .lengths) zeros fits
 
-  none : (v : ℕ) → lengthOf x start v ≡ 0
+  none : (v : ℕ) → chainLength x start v ≡ 0
   none v =
       ⊎-elim
       (λ h.

@@ -13,7 +13,7 @@ use borrow.Author.Tests.{lt-ltb, le-ltb, le-leb, eqb-true, eqb-false, ne-eqb}
 use Rattle.mesh.specs.declared.star.Index.{Index}
 use Rattle.mesh.specs.Words.{wordAt}
 use Rattle.mesh.specs.Complex.{mem, Nodup}
-use Rattle.mesh.specs.inside.Star.{walk, stepped, cornerAt, nextOf, headOf, lengthOf, chainOf, Covers, Chains, Complete, Laid, Outside, setChain, mayJoin, joined}
+use Rattle.mesh.specs.inside.Star.{walk, stepped, cornerAt, nextOf, headOf, chainLength, chainOf, Covers, Chains, Complete, Laid, Outside, setChain, mayJoin, joined}
 use Rattle.mesh.proofs.Laws.Parts.{side}
 use Rattle.mesh.proofs.Laws.Complex.Sets.{split, mem-nil}
 use Rattle.mesh.proofs.Laws.Star.Walks.{walk-on, walk-same, walk-entry, last-stands, last-changed}
@@ -25,9 +25,9 @@ pub record Moved (x : Index) (s t : List ℕ) (b a : ℕ) : Type 0 where
   pub taken : chainOf x t a ≡ []
   pub given : chainOf x t b ≡ chainOf x s a ++ chainOf x s b
   pub others : (c : ℕ) → c ≢ a → c ≢ b → chainOf x t c ≡ chainOf x s c
-  pub lengths : (c : ℕ) → c ≢ a → c ≢ b → lengthOf x t c ≡ lengthOf x s c
-  pub sum : lengthOf x t b ≡ lengthOf x s a + lengthOf x s b
-  pub zero : lengthOf x t a ≡ 0
+  pub lengths : (c : ℕ) → c ≢ a → c ≢ b → chainLength x t c ≡ chainLength x s c
+  pub sum : chainLength x t b ≡ chainLength x s a + chainLength x s b
+  pub zero : chainLength x t a ≡ 0
 
 module _ (x : Index) (s t : List ℕ) (b a k : ℕ) (n : a ≢ b) (c : Chains x s k) (m : Moved x s t b a) where
   -- what stands in a chain now stood there, or in a's and is in b's now
@@ -57,10 +57,10 @@ module _ (x : Index) (s t : List ℕ) (b a k : ℕ) (n : a ≢ b) (c : Chains x 
     apart = λ u w q h g. apart u w q (now u q h) (now w q g);
   }
     where
-      whole : (u : ℕ) → (eqb u a ≡ true) ⊎ (eqb u a ≡ false) → (eqb u b ≡ true) ⊎ (eqb u b ≡ false) → length (chainOf x t u) ≡ lengthOf x t u
-      whole u (inl e) f = subst (λ (z : ℕ). length (chainOf x t z) ≡ lengthOf x t z) (sym (eqb-true u a e)) (ap length (m .taken) ∙ sym (m .zero))
+      whole : (u : ℕ) → (eqb u a ≡ true) ⊎ (eqb u a ≡ false) → (eqb u b ≡ true) ⊎ (eqb u b ≡ false) → length (chainOf x t u) ≡ chainLength x t u
+      whole u (inl e) f = subst (λ (z : ℕ). length (chainOf x t z) ≡ chainLength x t z) (sym (eqb-true u a e)) (ap length (m .taken) ∙ sym (m .zero))
       whole u (inr e) (inl f) =
-          subst (λ (z : ℕ). length (chainOf x t z) ≡ lengthOf x t z) (sym (eqb-true u b f))
+          subst (λ (z : ℕ). length (chainOf x t z) ≡ chainLength x t z) (sym (eqb-true u b f))
           (ap length (m .given) ∙ length-append (chainOf x s a) (chainOf x s b) ∙ ap₂ (λ (i j : ℕ). i + j) (c .whole a) (c .whole b) ∙ sym (m .sum))
       whole u (inr e) (inr f) =
           ap length (m .others u (eqb-false u a e) (eqb-false u b f)) ∙ c .whole u ∙ sym (m .lengths u (eqb-false u a e) (eqb-false u b f))
@@ -82,20 +82,20 @@ module _ (x : Index) (s t : List ℕ) (b a k : ℕ) (n : a ≢ b) (c : Chains x 
 -- ---- the stores
 
 module _ (x : Index) (s : List ℕ) (b a k : ℕ) (l : Laid x (length s)) (hb : b < x .vertices) (ha : a < x .vertices) (n : a ≢ b)
-    (c : Chains x s k) (some : 0 < lengthOf x s a) where
+    (c : Chains x s k) (some : 0 < chainLength x s a) where
   abbrev last : ℕ
-  last = stepped (nextOf x s) (lengthOf x s a - 1) (headOf x s a)
+  last = stepped (nextOf x s) (chainLength x s a - 1) (headOf x s a)
 
   abbrev after : List ℕ
   after =
       set
-      (setChain x b (headOf x s a) (lengthOf x s a + lengthOf x s b) (set s (x .nexts + last) (headOf x s b)))
+      (setChain x b (headOf x s a) (chainLength x s a + chainLength x s b) (set s (x .nexts + last) (headOf x s b)))
       (x .lengths + a) 0
 
-  one-more : suc (lengthOf x s a - 1) ≡ lengthOf x s a
+  one-more : suc (chainLength x s a - 1) ≡ chainLength x s a
   one-more = omega arith
 
-  full : length (walk (x .room) (nextOf x s) (suc (lengthOf x s a - 1)) (headOf x s a)) ≡ suc (lengthOf x s a - 1)
+  full : length (walk (x .room) (nextOf x s) (suc (chainLength x s a - 1)) (headOf x s a)) ≡ suc (chainLength x s a - 1)
   unfolding chainOf
   full = rw one-more (c .whole a)
 
@@ -103,7 +103,7 @@ module _ (x : Index) (s : List ℕ) (b a k : ℕ) (l : Laid x (length s)) (hb : 
   unfolding chainOf
   last-in =
       subst (λ (i : ℕ). mem last (walk (x .room) (nextOf x s) i (headOf x s a)) ≡ true) one-more
-      (last-stands (x .room) (nextOf x s) (lengthOf x s a - 1) (headOf x s a) full)
+      (last-stands (x .room) (nextOf x s) (chainLength x s a - 1) (headOf x s a) full)
 
   last-entry : last / 4 < x .room
   last-entry = chain-entry x s a last last-in
@@ -117,9 +117,9 @@ module _ (x : Index) (s : List ℕ) (b a k : ℕ) (l : Laid x (length s)) (hb : 
   read j e₁ e₂ e₃ e₄ =
       let s₁ = set s (x .nexts + last) (headOf x s b) in
       let s₂ = set s₁ (x .heads + b) (headOf x s a) in
-      let s₃ = set s₂ (x .lengths + b) (lengthOf x s a + lengthOf x s b) in
+      let s₃ = set s₂ (x .lengths + b) (chainLength x s a + chainLength x s b) in
       getD-set-other s₃ (x .lengths + a) j 0 0 e₄
-      ∙ getD-set-other s₂ (x .lengths + b) j (lengthOf x s a + lengthOf x s b) 0 e₃
+      ∙ getD-set-other s₂ (x .lengths + b) j (chainLength x s a + chainLength x s b) 0 e₃
       ∙ getD-set-other s₁ (x .heads + b) j (headOf x s a) 0 e₂
       ∙ getD-set-other s (x .nexts + last) j (headOf x s b) 0 e₁
 
@@ -141,9 +141,9 @@ module _ (x : Index) (s : List ℕ) (b a k : ℕ) (l : Laid x (length s)) (hb : 
       let q = last-entry in
       let s₁ = set s (x .nexts + last) (headOf x s b) in
       let s₂ = set s₁ (x .heads + b) (headOf x s a) in
-      let s₃ = set s₂ (x .lengths + b) (lengthOf x s a + lengthOf x s b) in
+      let s₃ = set s₂ (x .lengths + b) (chainLength x s a + chainLength x s b) in
       getD-set-other s₃ (x .lengths + a) (x .nexts + last) 0 0 (λ e. omega arith)
-      ∙ getD-set-other s₂ (x .lengths + b) (x .nexts + last) (lengthOf x s a + lengthOf x s b) 0 (λ e. omega arith)
+      ∙ getD-set-other s₂ (x .lengths + b) (x .nexts + last) (chainLength x s a + chainLength x s b) 0 (λ e. omega arith)
       ∙ getD-set-other s₁ (x .heads + b) (x .nexts + last) (headOf x s a) 0 (λ e. omega arith)
       ∙ getD-set-same s (x .nexts + last) (headOf x s b) 0 (omega arith)
 
@@ -152,36 +152,36 @@ module _ (x : Index) (s : List ℕ) (b a k : ℕ) (l : Laid x (length s)) (hb : 
   head-b =
       let s₁ = set s (x .nexts + last) (headOf x s b) in
       let s₂ = set s₁ (x .heads + b) (headOf x s a) in
-      let s₃ = set s₂ (x .lengths + b) (lengthOf x s a + lengthOf x s b) in
+      let s₃ = set s₂ (x .lengths + b) (chainLength x s a + chainLength x s b) in
       getD-set-other s₃ (x .lengths + a) (x .heads + b) 0 0 (λ e. omega arith)
-      ∙ getD-set-other s₂ (x .lengths + b) (x .heads + b) (lengthOf x s a + lengthOf x s b) 0 (λ e. omega arith)
+      ∙ getD-set-other s₂ (x .lengths + b) (x .heads + b) (chainLength x s a + chainLength x s b) 0 (λ e. omega arith)
       ∙ getD-set-same s₁ (x .heads + b) (headOf x s a) 0 (omega (arith, length-set s (x .nexts + last) (headOf x s b)))
 
-  length-b : lengthOf x after b ≡ lengthOf x s a + lengthOf x s b
+  length-b : chainLength x after b ≡ chainLength x s a + chainLength x s b
   unfolding setChain
   length-b =
       let s₁ = set s (x .nexts + last) (headOf x s b) in
       let s₂ = set s₁ (x .heads + b) (headOf x s a) in
-      let s₃ = set s₂ (x .lengths + b) (lengthOf x s a + lengthOf x s b) in
+      let s₃ = set s₂ (x .lengths + b) (chainLength x s a + chainLength x s b) in
       length-vertex x after b hb
       ∙ getD-set-other s₃ (x .lengths + a) (x .lengths + b) 0 0 (λ e. n (omega arith))
-      ∙ getD-set-same s₂ (x .lengths + b) (lengthOf x s a + lengthOf x s b) 0
+      ∙ getD-set-same s₂ (x .lengths + b) (chainLength x s a + chainLength x s b) 0
       (omega (arith, length-set s₁ (x .heads + b) (headOf x s a), length-set s (x .nexts + last) (headOf x s b)))
 
-  length-a : lengthOf x after a ≡ 0
+  length-a : chainLength x after a ≡ 0
   unfolding setChain
   length-a =
       let s₁ = set s (x .nexts + last) (headOf x s b) in
       let s₂ = set s₁ (x .heads + b) (headOf x s a) in
-      let s₃ = set s₂ (x .lengths + b) (lengthOf x s a + lengthOf x s b) in
+      let s₃ = set s₂ (x .lengths + b) (chainLength x s a + chainLength x s b) in
       length-vertex x after a ha
       ∙ getD-set-same s₃ (x .lengths + a) 0 0
-      (omega (arith, length-set s₂ (x .lengths + b) (lengthOf x s a + lengthOf x s b), length-set s₁ (x .heads + b) (headOf x s a), length-set s (x .nexts + last) (headOf x s b)))
+      (omega (arith, length-set s₂ (x .lengths + b) (chainLength x s a + chainLength x s b), length-set s₁ (x .heads + b) (headOf x s a), length-set s (x .nexts + last) (headOf x s b)))
 
-  length-other : (u : ℕ) → u ≢ a → u ≢ b → lengthOf x after u ≡ lengthOf x s u
+  length-other : (u : ℕ) → u ≢ a → u ≢ b → chainLength x after u ≡ chainLength x s u
   length-other u e f = ⊎-elim yes (λ h. length-none x after u h ∙ sym (length-none x s u h)) (side u (x .vertices))
     where
-      yes : u < x .vertices → lengthOf x after u ≡ lengthOf x s u
+      yes : u < x .vertices → chainLength x after u ≡ chainLength x s u
       yes h =
           let q = last-entry in
           length-vertex x after u h
@@ -206,12 +206,12 @@ module _ (x : Index) (s : List ℕ) (b a k : ℕ) (l : Laid x (length s)) (hb : 
       no : x .vertices ≤ u → chainOf x after u ≡ chainOf x s u
       no h = chain-none x after u (length-none x after u h) ∙ sym (chain-none x s u (length-none x s u h))
 
-  changed : (walk (x .room) (nextOf x after) (lengthOf x s a) (headOf x s a) ≡ chainOf x s a) × (stepped (nextOf x after) (lengthOf x s a) (headOf x s a) ≡ headOf x s b)
+  changed : (walk (x .room) (nextOf x after) (chainLength x s a) (headOf x s a) ≡ chainOf x s a) × (stepped (nextOf x after) (chainLength x s a) (headOf x s a) ≡ headOf x s b)
   unfolding chainOf
   changed =
-      let r = last-changed (x .room) (nextOf x s) (nextOf x after) (lengthOf x s a - 1) (headOf x s a) full
+      let r = last-changed (x .room) (nextOf x s) (nextOf x after) (chainLength x s a - 1) (headOf x s a) full
       (subst (λ (i : ℕ). Nodup (walk (x .room) (nextOf x s) i (headOf x s a))) (sym one-more) (c .once a))
-      (λ q h e. next-other q (walk-entry (x .room) (nextOf x s) (suc (lengthOf x s a - 1)) (headOf x s a) q h) e) in
+      (λ q h e. next-other q (walk-entry (x .room) (nextOf x s) (suc (chainLength x s a - 1)) (headOf x s a) q h) e) in
       subst (λ (i : ℕ). (walk (x .room) (nextOf x after) i (headOf x s a) ≡ walk (x .room) (nextOf x s) i (headOf x s a)) × (stepped (nextOf x after) i (headOf x s a) ≡ headOf x s b)) one-more
       (r .0, r .1 ∙ next-last)
 
@@ -220,10 +220,10 @@ module _ (x : Index) (s : List ℕ) (b a k : ℕ) (l : Laid x (length s)) (hb : 
   chain-b =
       let w = walk (x .room) (nextOf x after) in
       ap₂ (λ (i p : ℕ). w i p) length-b head-b
-      ∙ walk-on (x .room) (nextOf x after) (lengthOf x s a) (lengthOf x s b) (headOf x s a) (ap length (changed .0) ∙ c .whole a)
+      ∙ walk-on (x .room) (nextOf x after) (chainLength x s a) (chainLength x s b) (headOf x s a) (ap length (changed .0) ∙ c .whole a)
       ∙ ap₂ (λ (u v : List ℕ). u ++ v) (changed .0)
-      (ap (λ (p : ℕ). w (lengthOf x s b) p) (changed .1)
-      ∙ walk-same (x .room) (nextOf x s) (nextOf x after) (lengthOf x s b) (headOf x s b) (λ q m. not-last b q (λ e. n (sym e)) m))
+      (ap (λ (p : ℕ). w (chainLength x s b) p) (changed .1)
+      ∙ walk-same (x .room) (nextOf x s) (nextOf x after) (chainLength x s b) (headOf x s b) (λ q m. not-last b q (λ e. n (sym e)) m))
 
   moved : Moved x s after b a
   moved = record {
@@ -244,25 +244,25 @@ module _ (x : Index) (s : List ℕ) (b a k : ℕ) (l : Laid x (length s)) (hb : 
         lt-ltb b (x .vertices) hb,
         lt-ltb a (x .vertices) ha,
         ne-eqb a b n,
-        lt-ltb 0 (lengthOf x s a) some,
-        le-leb (lengthOf x s a + lengthOf x s b) (4 * x .room) (omega arith),
+        lt-ltb 0 (chainLength x s a) some,
+        le-leb (chainLength x s a + chainLength x s b) (4 * x .room) (omega arith),
       )
 
 -- ---- the join of a whole index
 
 module _ (x : Index) (s : List ℕ) (b a k : ℕ) (l : Laid x (length s)) (hb : b < x .vertices) (ha : a < x .vertices) (n : a ≢ b)
     (c : Chains x s k) (hk : k ≤ 4 * x .room) where
-  none-joined : lengthOf x s a ≤ 0 → joined x b a s ≡ s
+  none-joined : chainLength x s a ≤ 0 → joined x b a s ≡ s
   unfolding joined mayJoin
   none-joined h =
-      simp (laid-yes x (length s) l, lt-ltb b (x .vertices) hb, lt-ltb a (x .vertices) ha, ne-eqb a b n, le-ltb 0 (lengthOf x s a) h)
+      simp (laid-yes x (length s) l, lt-ltb b (x .vertices) hb, lt-ltb a (x .vertices) ha, ne-eqb a b n, le-ltb 0 (chainLength x s a) h)
 
   pub length-joined : length (joined x b a s) ≡ length s
   length-joined =
       ⊎-elim
       (λ h. ap length (joins x s b a k l hb ha n c h hk) ∙ length-after x s b a k l hb ha n c h)
       (λ h. ap length (none-joined h))
-      (side 0 (lengthOf x s a))
+      (side 0 (chainLength x s a))
 
   -- words outside the chains are as they were
   pub joined-outside : (j : ℕ) → Outside x j → wordAt (joined x b a s) j ≡ wordAt s j
@@ -270,7 +270,7 @@ module _ (x : Index) (s : List ℕ) (b a k : ℕ) (l : Laid x (length s)) (hb : 
       ⊎-elim
       (λ h. ap (λ (u : List ℕ). wordAt u j) (joins x s b a k l hb ha n c h hk) ∙ after-outside x s b a k l hb ha n c h j o)
       (λ h. ap (λ (u : List ℕ). wordAt u j) (none-joined h))
-      (side 0 (lengthOf x s a))
+      (side 0 (chainLength x s a))
 
   -- what stood in a's chain stands in b's
   pub joined-moved : Moved x s (joined x b a s) b a
@@ -278,11 +278,11 @@ module _ (x : Index) (s : List ℕ) (b a k : ℕ) (l : Laid x (length s)) (hb : 
       ⊎-elim
       (λ h. subst (λ (u : List ℕ). Moved x s u b a) (sym (joins x s b a k l hb ha n c h hk)) (moved x s b a k l hb ha n c h))
       (λ h. subst (λ (u : List ℕ). Moved x s u b a) (sym (none-joined h)) (still h))
-      (side 0 (lengthOf x s a))
+      (side 0 (chainLength x s a))
     where
-      still : lengthOf x s a ≤ 0 → Moved x s s b a
+      still : chainLength x s a ≤ 0 → Moved x s s b a
       still h =
-          let z : lengthOf x s a ≡ 0 = omega arith in
+          let z : chainLength x s a ≡ 0 = omega arith in
           let e = chain-none x s a z in
           record {
             taken = e;

@@ -13,7 +13,7 @@ use Rattle.mesh.specs.declared.element.Tet.{Tet}
 use Rattle.mesh.specs.declared.star.Index.{Index}
 use Rattle.mesh.specs.Complex.{mem, sub}
 use Rattle.mesh.specs.Element.{tets, hasAll}
-use Rattle.mesh.specs.inside.Star.{goneTet, cornersAt, lengthOf, chainOf, Complete, Laid, distinct, listed}
+use Rattle.mesh.specs.inside.Star.{goneTet, cornersAt, chainLength, chainOf, Complete, Laid, distinct, listed}
 use Rattle.mesh.specs.inside.About.{passFrom}
 use Rattle.mesh.specs.Tests.{any}
 use Rattle.mesh.specs.inside.With.{rarer, entryHas, withIf, withMet, anyWith, withRoom, withList, withIn}
@@ -47,7 +47,7 @@ element-in p (t ∷ ts) z (suc e) h a = or-right (p t) (element-in p ts z e (le-
 
 rarer-cases : (x : Index) (s : List ℕ) (v w : ℕ) → (rarer x s v w ≡ v) ⊎ (rarer x s v w ≡ w)
 unfolding rarer
-rarer-cases x s v w = elim (split (leb (lengthOf x s v) (lengthOf x s w))) [ inl e ↦ inl (rw e refl) | inr e ↦ inr (rw e refl) ]
+rarer-cases x s v w = elim (split (leb (chainLength x s v) (chainLength x s w))) [ inl e ↦ inl (rw e refl) | inr e ↦ inr (rw e refl) ]
 
 module _ (x : Index) (s : List ℕ) (v w : ℕ) where
   -- it is among them
@@ -141,7 +141,7 @@ module _ (x : Index) (s : List ℕ) (n : ℕ) (c : Complete x s (4 * n)) where
 
     has-room : withRoom x s v w ≡ true
     unfolding withRoom
-    has-room = room-yes x (length s) (lengthOf x s (rarer x s v w)) l (let h = one-short x s (4 * n) (c .chains) (rarer x s v w) in omega arith)
+    has-room = room-yes x (length s) (chainLength x s (rarer x s v w)) l (let h = one-short x s (4 * n) (c .chains) (rarer x s v w) in omega arith)
 
     all-found : distinct (withMet x s (rarer x s v w) (v ∷ w ∷ [])) ≡ passFrom (hasAll (v ∷ w ∷ [])) 0 (tets n (drop (x .slots) s))
     all-found = met-found (rarer x s v w) (v ∷ w ∷ []) (rarer-among x s v w []) (rarer-vertex x s v w hv hw)

@@ -11,7 +11,7 @@ use borrow.Author.Tests.{le-leb, lt-leb}
 use Rattle.mesh.specs.declared.star.Index.{Index}
 use Rattle.mesh.specs.Words.{wordAt}
 use Rattle.mesh.specs.Complex.{mem, sub}
-use Rattle.mesh.specs.inside.Star.{walk, gather, cornersAt, nextOf, headOf, lengthOf, chainOf, Laid, Free, roomFor, distinct, written, listed}
+use Rattle.mesh.specs.inside.Star.{walk, gather, cornersAt, nextOf, headOf, chainLength, chainOf, Laid, Free, roomFor, distinct, written, listed}
 use Rattle.mesh.specs.Tests.{any}
 use Rattle.mesh.specs.inside.With.{rarer, entryHas, withIf, withMet, anyWith, withRoom, withList, withIn}
 use Rattle.mesh.proofs.Laws.Star.Layout.{room-is}
@@ -22,8 +22,8 @@ use Rattle.mesh.proofs.Laws.Star.Answers.{ordered-is}
 
 -- ---- the shorter chain
 
-module _ (x : Index) (s : List ℕ) (v w m n : ℕ) (em : m ≡ lengthOf x s v) (en : n ≡ lengthOf x s w) where
-  test : (b : Bool) → leb m n ≡ b → leb (lengthOf x s v) (lengthOf x s w) ≡ b
+module _ (x : Index) (s : List ℕ) (v w m n : ℕ) (em : m ≡ chainLength x s v) (en : n ≡ chainLength x s w) where
+  test : (b : Bool) → leb m n ≡ b → leb (chainLength x s v) (chainLength x s w) ≡ b
   test b e = sym (ap₂ leb em en) ∙ e
 
   pub rarer-first : m ≤ n → v ≡ rarer x s v w
@@ -72,7 +72,7 @@ unfolding withIf entryHas
 with-same x σ s t l same p h = ap (λ (us : List ℕ). cond (sub σ us) (p / 4 ∷ []) []) (corners-same x s t l same p h)
 
 -- no more slots than entries
-pub met-short : (x : Index) (s : List ℕ) (a : ℕ) (σ : List ℕ) → length (withMet x s a σ) ≤ lengthOf x s a
+pub met-short : (x : Index) (s : List ℕ) (a : ℕ) (σ : List ℕ) → length (withMet x s a σ) ≤ chainLength x s a
 unfolding withMet
 met-short x s a σ = omega (arith, gather-short (withIf x s σ) 1 (chainOf x s a) (λ p. with-short x s p σ), chain-short x s a)
 
@@ -82,7 +82,7 @@ met-short x s a σ = omega (arith, gather-short (withIf x s σ) 1 (chainOf x s a
 pub record Seeking (x : Index) (s σ : List ℕ) (r : Bool) (p left : ℕ) : Type 0 where
   pub is : any (entryHas x s σ) (walk (x .room) (nextOf x s) left p) ≡ r
 
-pub seek-start : (x : Index) (s : List ℕ) (u v w a left p : ℕ) → a ≡ rarer x s u v → left ≡ lengthOf x s a → p ≡ headOf x s a
+pub seek-start : (x : Index) (s : List ℕ) (u v w a left p : ℕ) → a ≡ rarer x s u v → left ≡ chainLength x s a → p ≡ headOf x s a
     → Seeking x s (u ∷ v ∷ w ∷ []) (anyWith x s u v w) p left
 unfolding anyWith chainOf
 seek-start x s u v w a left p ea el ep =
@@ -90,7 +90,7 @@ seek-start x s u v w a left p ea el ep =
     record {
       is =
           ap₂ (λ (i j : ℕ). any (entryHas x s σ) (walk (x .room) (nextOf x s) i j)) el ep
-          ∙ ap (λ (i : ℕ). any (entryHas x s σ) (walk (x .room) (nextOf x s) (lengthOf x s i) (headOf x s i))) ea;
+          ∙ ap (λ (i : ℕ). any (entryHas x s σ) (walk (x .room) (nextOf x s) (chainLength x s i) (headOf x s i))) ea;
     }
 
 module _ {x : Index} {s σ : List ℕ} {r : Bool} {p left : ℕ} (g : Seeking x s σ r p left) where
@@ -122,7 +122,7 @@ module _ {x : Index} {s σ : List ℕ} {r : Bool} {p left : ℕ} (g : Seeking x 
 abbrev pub Putting : Index → List ℕ → ℕ → List ℕ → List ℕ → ℕ → ℕ → ℕ → Type 0
 Putting x σ a s₀ s p left n = Gathering x (λ t q. withIf x t σ q) 1 (x .area) (withMet x s₀ a σ) s₀ s p left n
 
-pub put-start : (x : Index) (s σ : List ℕ) (a left p : ℕ) → Free x s (x .area) (lengthOf x s a) → left ≡ lengthOf x s a → p ≡ headOf x s a → Putting x σ a s s p left 0
+pub put-start : (x : Index) (s σ : List ℕ) (a left p : ℕ) → Free x s (x .area) (chainLength x s a) → left ≡ chainLength x s a → p ≡ headOf x s a → Putting x σ a s s p left 0
 unfolding withMet chainOf
 put-start x s σ a left p fr el ep =
     subst (λ (all : List ℕ). Gathering x (λ t q. withIf x t σ q) 1 (x .area) all s s p left 0)
@@ -131,10 +131,10 @@ put-start x s σ a left p fr el ep =
 
 -- ---- the answer
 
-module _ (x : Index) (s : List ℕ) (v w a n : ℕ) (ea : a ≡ rarer x s v w) (en : n ≡ lengthOf x s a) where
+module _ (x : Index) (s : List ℕ) (v w a n : ℕ) (ea : a ≡ rarer x s v w) (en : n ≡ chainLength x s a) where
   tested : (b : Bool) → roomFor x (length s) n ≡ b → withRoom x s v w ≡ b
   unfolding withRoom
-  tested b e = sym (ap (roomFor x (length s)) (en ∙ ap (lengthOf x s) ea)) ∙ e
+  tested b e = sym (ap (roomFor x (length s)) (en ∙ ap (chainLength x s) ea)) ∙ e
 
   pub with-no : roomFor x (length s) n ≡ false → (0 ≡ length (withList x s v w)) × (s ≡ withIn x s v w)
   unfolding withList withIn
@@ -144,7 +144,7 @@ module _ (x : Index) (s : List ℕ) (v w a n : ℕ) (ea : a ≡ rarer x s v w) (
     room : x .area + (n + n) ≤ length s
     room = room-is x (length s) n er .1
 
-    pub with-free : Free x s (x .area) (lengthOf x s a)
+    pub with-free : Free x s (x .area) (chainLength x s a)
     with-free = record { laid = room-is x (length s) n er .0; behind = omega arith; fits = omega (arith, room) }
 
     tight : x .area + (length (withMet x s a (v ∷ w ∷ [])) + length (withMet x s a (v ∷ w ∷ []))) ≤ length s

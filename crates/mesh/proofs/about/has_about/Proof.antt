@@ -2,7 +2,7 @@
 use mathlib.Core.Path.{sym, ap, _∙_}
 use native.Mathlib.Omega.{arith}
 use borrow.Author.Tests.{not-true, not-false}
-use Rattle.mesh.specs.inside.Star.{lengthOf}
+use Rattle.mesh.specs.inside.Star.{chainLength}
 use Rattle.mesh.proofs.Laws.Star.Layout.{laid-is}
 use Rattle.mesh.proofs.Laws.About.Members.{Summing, sum-start, about-no, sum-blocked, sum-full, sum-turn, sum-end}
 use borrow.Author.Needs.{needs}
@@ -43,7 +43,7 @@ add-n : tie.Need-add-n Inv-loop μ-loop
 add-n c = omega (arith, c .before .before .before .before .before .loop .inv .few, c .chain-length .ensures .1)
 
 returns-3 : tie.Need-returns-3 Inv-loop μ-loop
-returns-3 c = sum-full (sym (c .before .before .before .before .before .before .before .before .is-laid .ensures) ∙ not-false _ (c .before .before .before .before .before .before .before .if1 .left)) (c .before .before .before .before .before .before .loop .inv) (c .before .before .before .before .before .loop-test .taken) (sym (c .before .before .before .before .is-clear .ensures) ∙ not-false _ (c .before .before .before .if2 .left)) _ (c .before .chain-length .ensures .0 ∙ ap (lengthOf (c .before .before .before .before .before .before .before .before .before .before .args .x) (c .before .before .before .before .before .before .before .before .before .before .args .s .now)) (c .before .before .word .ensures)) (c .if3 .taken)
+returns-3 c = sum-full (sym (c .before .before .before .before .before .before .before .before .is-laid .ensures) ∙ not-false _ (c .before .before .before .before .before .before .before .if1 .left)) (c .before .before .before .before .before .before .loop .inv) (c .before .before .before .before .before .loop-test .taken) (sym (c .before .before .before .before .is-clear .ensures) ∙ not-false _ (c .before .before .before .if2 .left)) _ (c .before .chain-length .ensures .0 ∙ ap (chainLength (c .before .before .before .before .before .before .before .before .before .before .args .x) (c .before .before .before .before .before .before .before .before .before .before .args .s .now)) (c .before .before .word .ensures)) (c .if3 .taken)
 
 later-requires : tie.Need-later-requires Inv-loop μ-loop
 later-requires c κs = search needs
@@ -55,7 +55,7 @@ loop-less : tie.Need-loop-less Inv-loop μ-loop
 loop-less c = search needs
 
 loop-again : tie.Need-loop-again Inv-loop μ-loop
-loop-again c = sum-turn (sym (c .before .before .before .before .before .before .before .before .before .is-laid .ensures) ∙ not-false _ (c .before .before .before .before .before .before .before .before .if1 .left)) (c .before .before .before .before .before .before .before .loop .inv) (c .before .before .before .before .before .before .loop-test .taken) (sym (c .before .before .before .before .before .is-clear .ensures) ∙ not-false _ (c .before .before .before .before .if2 .left)) _ (c .before .before .chain-length .ensures .0 ∙ ap (lengthOf (c .before .before .before .before .before .before .before .before .before .before .before .args .x) (c .before .before .before .before .before .before .before .before .before .before .before .args .s .now)) (c .before .before .before .word .ensures)) (c .before .if3 .left) _ (c .later .ensures)
+loop-again c = sum-turn (sym (c .before .before .before .before .before .before .before .before .before .is-laid .ensures) ∙ not-false _ (c .before .before .before .before .before .before .before .before .if1 .left)) (c .before .before .before .before .before .before .before .loop .inv) (c .before .before .before .before .before .before .loop-test .taken) (sym (c .before .before .before .before .before .is-clear .ensures) ∙ not-false _ (c .before .before .before .before .if2 .left)) _ (c .before .before .chain-length .ensures .0 ∙ ap (chainLength (c .before .before .before .before .before .before .before .before .before .before .before .args .x) (c .before .before .before .before .before .before .before .before .before .before .before .args .s .now)) (c .before .before .before .word .ensures)) (c .before .if3 .left) _ (c .later .ensures)
 
 returns-4 : tie.Need-returns-4 Inv-loop μ-loop
 returns-4 c = sum-end (sym (c .before .before .before .is-laid .ensures) ∙ not-false _ (c .before .before .if1 .left)) (c .before .loop .inv) (c .loop-test .left)

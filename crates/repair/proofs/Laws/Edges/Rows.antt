@@ -19,7 +19,7 @@ use Rattle.mesh.proofs.Laws.Boundary.Same.{length-keep}
 use Rattle.mesh.proofs.Laws.Sort.{length-sort}
 use Rattle.mesh.proofs.Laws.Unique.{length-unique}
 use Rattle.mesh.proofs.Laws.Short.Loops.{length-all}
-use Rattle.repair.specs.inside.Layout.{edgesOf}
+use Rattle.repair.specs.inside.Layout.{rowEdges}
 
 -- no more than six edges an element
 pub short-few : (ps : List Point) (limit : Float) (ts : List Tet) → length (shortEdges ps limit ts) ≤ 6 * length ts
@@ -37,14 +37,14 @@ short-few ps limit ts =
     )
 
 -- the edges of the rows
-pub rows-edges : (ps : List Point) (es : List Pair) (z : List ℕ) → edgesOf (length es) (flat (map (edgeRow ps) es) ++ z) ≡ es
-unfolding edgesOf flat edgeRow
+pub rows-edges : (ps : List Point) (es : List Pair) (z : List ℕ) → rowEdges (length es) (flat (map (edgeRow ps) es) ++ z) ≡ es
+unfolding rowEdges flat edgeRow
 rows-edges ps [] z = refl
 rows-edges ps (e ∷ es) z = ap (λ (l : List Pair). e ∷ l) (rows-edges ps es z)
 
 -- the same edges where their words are the same
-pub edges-same : (k : ℕ) (s t : List ℕ) → ((j : ℕ) → j < 4 * k → wordAt t j ≡ wordAt s j) → edgesOf k t ≡ edgesOf k s
-unfolding edgesOf
+pub edges-same : (k : ℕ) (s t : List ℕ) → ((j : ℕ) → j < 4 * k → wordAt t j ≡ wordAt s j) → rowEdges k t ≡ rowEdges k s
+unfolding rowEdges
 edges-same zero s t h = refl
 edges-same (suc k) s t h =
     ap₂ (λ (e : Pair) (l : List Pair). e ∷ l) (ap₂ pair (h 2 (omega arith)) (h 3 (omega arith)))

@@ -31,7 +31,7 @@ use Rattle.mesh.proofs.Laws.List.Bad.{keep-few}
 use Rattle.mesh.proofs.Laws.About.Calls.{Copied, live-count, live-copied}
 use Rattle.repair.specs.Mesh.{Mesh}
 use Rattle.repair.specs.Improve.{State, listedEdges}
-use Rattle.repair.specs.inside.Layout.{Room, Stands, Same, edgesAt, edgesOf, edgesIn, slotsIn, liveIn}
+use Rattle.repair.specs.inside.Layout.{Room, Stands, Same, edgesAt, rowEdges, edgesIn, slotsIn, liveIn}
 use Rattle.repair.proofs.Laws.Layout.{room-laid}
 use Rattle.repair.proofs.Laws.Same.{same-trans, same-wider, same-front, same-put}
 use Rattle.repair.proofs.Laws.Improve.Short.{Live, short-listed}
@@ -145,7 +145,7 @@ module _ (x : Index) (n : ℕ) (w : List ℕ) (r : Room x n (length w)) (k : ℕ
         edges-are =
             edges-same q (rows ++ zeroWords (length part - (4 * k + length rows))) (drop (edgesAt x) w₃)
             (λ j h. getD-drop (edgesAt x) w₃ j 0 ∙ done .0 j h ∙ row-word j h)
-            ∙ ap (λ (i : ℕ). edgesOf i (rows ++ zeroWords (length part - (4 * k + length rows)))) q-is
+            ∙ ap (λ (i : ℕ). rowEdges i (rows ++ zeroWords (length part - (4 * k + length rows)))) q-is
             ∙ rows-edges ps es (zeroWords (length part - (4 * k + length rows)))
 
         -- they are the round's

@@ -27,7 +27,7 @@ use Rattle.repair.specs.Flip.{State, slotHas, emptied, elementsAt, orien
 use Rattle.repair.specs.inside.Layout.{slotOk}
 use Rattle.repair.specs.inside.improve.Collapse.{slotAt}
 use Rattle.repair.specs.inside.flip.Trio.{elementsOf}
-use Rattle.repair.specs.inside.flip.Layout.{Stands, Kept, FacesBound, slotOf}
+use Rattle.repair.specs.inside.flip.Layout.{SlotsStand, Kept, FacesBound, slotOf}
 use Rattle.repair.specs.inside.flip.Tries.{Holds, Went, Old, Start, FaceListed, placesOf}
 use Rattle.repair.proofs.Laws.Flip.Slots.{none-some, Aged, aged-emptied, aged-append}
 use Rattle.repair.proofs.Laws.Flip.Bound.{faces-room, faces-turn}
@@ -150,7 +150,7 @@ module _ (μ : Measure) (x : Index) (n : ℕ) (t : Tried) (w : List ℕ) (ts : L
     face-second e = idle (try-first nv ts f i j fl s st μ p (slot-i here-p) (read-j .0 ∙ slot-none q (eq-eqb (q .a) 4294967295 e)) (one-i here-p))
 
     module _ (nq : q .a ≡ 4294967295 → ⊥) (a b : ℕ) (ea : a ≡ getD (without σ (verticesOf p)) 0 (p .d)) (eb : b ≡ getD (without σ (verticesOf q)) 0 (q .d))
-        (r : Bool) (found : (n c : ℕ) (s : State) → Stands x n c w s → a < nv → b < nv → r ≡ any (slotHas (a ∷ b ∷ b ∷ [])) (s .slots)) where
+        (r : Bool) (found : (n c : ℕ) (s : State) → SlotsStand x n c w s → a < nv → b < nv → r ≡ any (slotHas (a ∷ b ∷ b ∷ [])) (s .slots)) where
       here-q : gone q ≡ false
       here-q = ne-eqb (q .a) 4294967295 nq
 

@@ -23,7 +23,7 @@ use Rattle.mesh.proofs.Laws.Star.Calls.{Answered}
 use Rattle.mesh.proofs.Laws.With.Found.{any-found, with-count, with-answered}
 use Rattle.repair.specs.Flip.{State, slotHas, numbersWith}
 use Rattle.repair.specs.inside.Layout.{Same, slotOk, slotsIn}
-use Rattle.repair.specs.inside.flip.Layout.{Stands, slotOf}
+use Rattle.repair.specs.inside.flip.Layout.{SlotsStand, slotOf}
 use Rattle.repair.proofs.Laws.Same.{same-front}
 use Rattle.repair.proofs.Laws.Replace.Slots.{gone-has, ok-cases, well-there}
 use Rattle.repair.proofs.Laws.Flip.Layout.{room-laid, area-long}
@@ -68,7 +68,7 @@ module _ (nv : ℕ) (few : nv ≤ 4096) (a : ℕ) (ha : a < nv) (σ : List ℕ) 
 
 -- ---- the answers
 
-module _ {x : Index} {n c : ℕ} {w : List ℕ} {s : State} (z : Stands x n c w s) where
+module _ {x : Index} {n c : ℕ} {w : List ℕ} {s : State} (z : SlotsStand x n c w s) where
   -- whether a live element has three vertices
   pub any-stands : (u v y : ℕ) → u < x .vertices → v < x .vertices → anyWith x w u v y ≡ any (slotHas (u ∷ v ∷ y ∷ [])) (s .slots)
   any-stands u v y hu hv =

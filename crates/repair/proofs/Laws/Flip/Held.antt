@@ -24,7 +24,7 @@ use Rattle.mesh.proofs.Laws.Manifold.Corners.{every-getD}
 use Rattle.repair.specs.Flip.{State, slotHas, live, numbersWith}
 use Rattle.repair.specs.inside.Layout.{slotOk, slotsIn}
 use Rattle.repair.specs.inside.improve.Collapse.{slotAt}
-use Rattle.repair.specs.inside.flip.Layout.{Stands, slotOf}
+use Rattle.repair.specs.inside.flip.Layout.{SlotsStand, slotOf}
 use Rattle.repair.proofs.Laws.Gain.Tallies.{elementAt}
 use Rattle.repair.proofs.Laws.Replace.Slots.{ok-cases}
 use Rattle.repair.proofs.Laws.Replace.Writes.{slot-corners}
@@ -59,7 +59,7 @@ module _ (σ : List ℕ) where
 
 -- ---- in the work slice
 
-module _ {x : Index} {n c : ℕ} {w : List ℕ} {s : State} (z : Stands x n c w s) where
+module _ {x : Index} {n c : ℕ} {w : List ℕ} {s : State} (z : SlotsStand x n c w s) where
   -- what is read from a slot
   pub slot-read : (i : ℕ) → i < c → {r : Tet} → r ≡ slotAt x w i → (getD (s .slots) i none ≡ slotOf r) × (slotOk (x .vertices) r ≡ true)
   slot-read i h {r} e =

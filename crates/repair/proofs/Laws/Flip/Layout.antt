@@ -21,7 +21,7 @@ use Rattle.mesh.proofs.Laws.Boundary.Same.{length-map}
 use Rattle.mesh.proofs.Laws.Intake.Reads.{length-tets}
 use Rattle.repair.specs.Flip.{State, live}
 use Rattle.repair.specs.inside.Layout.{Same, slotOk, slotsIn}
-use Rattle.repair.specs.inside.flip.Layout.{FlipRoom, Stands, Kept, slotOf, tripleAt}
+use Rattle.repair.specs.inside.flip.Layout.{FlipRoom, SlotsStand, Kept, slotOf, tripleAt}
 
 -- the areas of the index lie one behind the other
 pub room-laid : {x : Index} {n m : ℕ} → FlipRoom x n m → Laid x m
@@ -52,7 +52,7 @@ live-slots (t ∷ ts) = go (gone t) (live-slots ts)
     go true h = h
     go false h = ap (λ l. t ∷ l) h
 
-module _ {x : Index} {n c : ℕ} {w : List ℕ} {s : State} (z : Stands x n c w s) where
+module _ {x : Index} {n c : ℕ} {w : List ℕ} {s : State} (z : SlotsStand x n c w s) where
   -- how many slots there are
   pub slots-many : length (s .slots) ≡ c
   slots-many = ap length (z .slots) ∙ length-map slotOf (slotsIn x c w) ∙ length-tets c (drop (x .slots) w)
@@ -62,7 +62,7 @@ module _ {x : Index} {n c : ℕ} {w : List ℕ} {s : State} (z : Stands x n c w 
   stands-live = ap live (z .slots) ∙ live-slots (slotsIn x c w)
 
   -- the same state where only words of the area changed
-  pub stands-kept : {t : List ℕ} → Same w t (x .area) (length w) → Stands x n c t s
+  pub stands-kept : {t : List ℕ} → Same w t (x .area) (length w) → SlotsStand x n c t s
   stands-kept {t} k =
       let l = room-laid (z .room) in
       let e : slotsIn x c t ≡ slotsIn x c w = answered-elements x w c l (z .fits) (z .index) t (k .before) in

@@ -21,7 +21,7 @@ use Rattle.repair.specs.declared.flip.counts.Tried.{Tried}
 use Rattle.repair.specs.declared.flip.counts.Places.{Places}
 use Rattle.repair.specs.Flip.{State, live, emptied, elementsAt, oriented, accepted, replace}
 use Rattle.repair.specs.inside.flip.Trio.{elementsOf}
-use Rattle.repair.specs.inside.flip.Layout.{Stands, Kept}
+use Rattle.repair.specs.inside.flip.Layout.{SlotsStand, Kept}
 use Rattle.repair.specs.inside.flip.Tries.{Holds, Counted, Counts, Old, placesOf}
 use Rattle.repair.specs.inside.flip.Replace.{Empties, Adds}
 use Rattle.repair.proofs.Laws.Flip.Slots.{none-some, live-some}
@@ -42,7 +42,7 @@ places-two k p h = rw (ne-eqb k 3 h) refl
 
 -- where w stands for a state, u stands for the state with the slot e emptied
 abbrev EmptiesOne : Index → ℕ → List ℕ → List ℕ → Type 0
-EmptiesOne x e w u = (n c : ℕ) (s : State) → e < c → Stands x n c w s → Stands x n c u (record { slots = set (s .slots) e none; flips = s .flips }) × Kept x w u
+EmptiesOne x e w u = (n c : ℕ) (s : State) → e < c → SlotsStand x n c w s → SlotsStand x n c u (record { slots = set (s .slots) e none; flips = s .flips }) × Kept x w u
 
 -- no slot emptied, and one more
 empties-none : {x : Index} {w : List ℕ} → Empties x [] w w
@@ -67,24 +67,24 @@ empties-three x k p w u v y h a b c =
 -- where w stands for a state with c slots, u stands for the state with t in a slot behind them
 abbrev AddsOne : Index → ℕ → Tet → List ℕ → List ℕ → Type 0
 AddsOne x c t w u =
-    (n : ℕ) (s : State) → c < x .room → wellNumbered (x .vertices) t ≡ true → Stands x n c w s
-    → Stands x n (c + 1) u (record { slots = s .slots ++ (some t ∷ []); flips = s .flips }) × Kept x w u
+    (n : ℕ) (s : State) → c < x .room → wellNumbered (x .vertices) t ≡ true → SlotsStand x n c w s
+    → SlotsStand x n (c + 1) u (record { slots = s .slots ++ (some t ∷ []); flips = s .flips }) × Kept x w u
 
 -- no slot added, and one more
 adds-none : {x : Index} {c : ℕ} {w : List ℕ} → Adds x c [] w w
 adds-none {x} {c} {w} n s h ok z =
     let e : c ≡ c + 0 = omega arith in
-    (subst (λ (k : ℕ). Stands x n k w (record { slots = s .slots ++ []; flips = s .flips })) e (subst (λ (l : List (Option Tet)). Stands x n c w (record { slots = l; flips = s .flips })) (sym (append-nil (s .slots))) z), kept-refl)
+    (subst (λ (k : ℕ). SlotsStand x n k w (record { slots = s .slots ++ []; flips = s .flips })) e (subst (λ (l : List (Option Tet)). SlotsStand x n c w (record { slots = l; flips = s .flips })) (sym (append-nil (s .slots))) z), kept-refl)
 
 adds-more : {x : Index} (c d : ℕ) (t : Tet) (ts : List Tet) {w u v : List ℕ} → d ≡ c + 1 → AddsOne x c t w u → Adds x d ts u v → Adds x c (t ∷ ts) w v
 adds-more {x} c d t ts {w} {u} {v} e first rest n s h ok z =
     let nv = x .vertices in
     let a = first n s (omega arith) (and-fst (wellNumbered nv t) (every (wellNumbered nv) ts) ok) z in
     let s₁ : State = record { slots = s .slots ++ (some t ∷ []); flips = s .flips } in
-    let b = rest n s₁ (omega arith) (and-snd (wellNumbered nv t) (every (wellNumbered nv) ts) ok) (subst (λ (k : ℕ). Stands x n k u s₁) (sym e) (a .0)) in
+    let b = rest n s₁ (omega arith) (and-snd (wellNumbered nv t) (every (wellNumbered nv) ts) ok) (subst (λ (k : ℕ). SlotsStand x n k u s₁) (sym e) (a .0)) in
     let f : d + length ts ≡ c + suc (length ts) = omega arith in (
-      subst (λ (k : ℕ). Stands x n k v (record { slots = s .slots ++ some t ∷ map some ts; flips = s .flips })) f
-          (subst (λ (l : List (Option Tet)). Stands x n (d + length ts) v (record { slots = l; flips = s .flips })) (append-snoc (s .slots) (some t) (map some ts)) (b .0)),
+      subst (λ (k : ℕ). SlotsStand x n k v (record { slots = s .slots ++ some t ∷ map some ts; flips = s .flips })) f
+          (subst (λ (l : List (Option Tet)). SlotsStand x n (d + length ts) v (record { slots = l; flips = s .flips })) (append-snoc (s .slots) (some t) (map some ts)) (b .0)),
       kept-trans (a .1) (b .1),
     )
 
@@ -178,13 +178,13 @@ module _ (μ : Measure) (x : Index) (n : ℕ) (t : Tried) (w : List ℕ) (s : St
       let b = adds n (record { slots = emptied is (s .slots); flips = s .flips }) (omega arith) fine (a .0) in (
         subst (λ (q : Bool). Holds x n (record { slots = t .slots + k; flips = t .flips + 1 }) v (cond q (record { slots = emptied is (s .slots) ++ map some (map (oriented μ) (elementsOf cs)); flips = s .flips + 1 }) s)) (sym (test ∙ h))
             (record {
-              stands = subst (λ (j : ℕ). Stands x n (t .slots + j) v (record { slots = emptied is (s .slots) ++ map some (map (oriented μ) (elementsOf cs)); flips = s .flips + 1 })) (sym e)
-                  (counted (subst (λ (l : List Tet). Stands x n (t .slots + length (elementsOf new)) v (record { slots = emptied is (s .slots) ++ map some l; flips = s .flips })) made (b .0)));
+              stands = subst (λ (j : ℕ). SlotsStand x n (t .slots + j) v (record { slots = emptied is (s .slots) ++ map some (map (oriented μ) (elementsOf cs)); flips = s .flips + 1 })) (sym e)
+                  (counted (subst (λ (l : List Tet). SlotsStand x n (t .slots + length (elementsOf new)) v (record { slots = emptied is (s .slots) ++ map some l; flips = s .flips })) made (b .0)));
               flips = ap (λ (j : ℕ). j + 1) (z .flips);
             }),
         kept-trans (a .1) (b .1),
       )
     where
       -- the count of flips does not matter
-      counted : {c f g : ℕ} {y : List ℕ} {l : List (Option Tet)} → Stands x n c y (record { slots = l; flips = f }) → Stands x n c y (record { slots = l; flips = g })
+      counted : {c f g : ℕ} {y : List ℕ} {l : List (Option Tet)} → SlotsStand x n c y (record { slots = l; flips = f }) → SlotsStand x n c y (record { slots = l; flips = g })
       counted q = record { room = q .room; fits = q .fits; slots = q .slots; proper = q .proper; index = q .index }

@@ -27,7 +27,7 @@ use Rattle.repair.specs.declared.flip.counts.Places.{Places}
 use Rattle.repair.specs.Flip.{State, slotHas, live, numbersWith, elementsAt, emptied, besides, oriented, accepted, replace, threeToTwo, tryEdge}
 use Rattle.repair.specs.inside.flip.Trio.{elementsOf}
 use Rattle.repair.specs.inside.Layout.{Same}
-use Rattle.repair.specs.inside.flip.Layout.{Stands, Kept, EdgesBound, tripleAt}
+use Rattle.repair.specs.inside.flip.Layout.{SlotsStand, Kept, EdgesBound, tripleAt}
 use Rattle.repair.specs.inside.flip.Tries.{Holds, Went, Old, placesOf, EdgeListed, edgeRow}
 use Rattle.repair.specs.inside.flip.ThreeToTwo.{trioIn, threeOf, othersOf, ListedAt}
 use Rattle.repair.proofs.Laws.Same.{same-trans}
@@ -56,7 +56,7 @@ module _ {x : Index} {n : ℕ} {t : Tried} {w : List ℕ} {s : State} (μ : Meas
 
   -- the search for the edge's elements, in any state
   abbrev Finds : List ℕ → ℕ → Type 0
-  Finds v k = (m c : ℕ) (r : State) → Stands x m c w r → e .a < x .vertices → e .b < x .vertices
+  Finds v k = (m c : ℕ) (r : State) → SlotsStand x m c w r → e .a < x .vertices → e .b < x .vertices
       → (k ≡ length (numbersWith (edgeRow e) (r .slots))) × (take k (drop (x .area) v) ≡ numbersWith (edgeRow e) (r .slots)) × Same w v (x .area) (length w)
 
   -- the turn by its tests
@@ -84,7 +84,7 @@ module _ {x : Index} {n : ℕ} {t : Tried} {w : List ℕ} {s : State} (μ : Meas
     three : is ≡ p .a ∷ p .b ∷ p .c ∷ []
     three = words-three is v (x .area) k (found .0) (found .1) k3 p ep
 
-    there : Stands x n (t .slots) v s
+    there : SlotsStand x n (t .slots) v s
     there = stands-kept (h .stands) (found .2)
 
     -- the area has room for the vertices
@@ -155,7 +155,7 @@ module _ {x : Index} {n : ℕ} {t : Tried} {w : List ℕ} {s : State} (μ : Meas
           stays same-all (turn-is ∙ ap₂ (λ (q r : Bool). cond (q && r) (threeToTwo μ s e is (getD others 0 0) (getD others 1 0) (getD others 2 0)) s) is-three
           (ne-eqb (length others) 3 (λ q. d (listed .count ∙ ap length (sym others-are) ∙ q))))
 
-      module _ (m3 : m ≡ 3) {f : Triple} (ef : f ≡ tripleAt u (x .area)) {q : Bool} (search : (m c : ℕ) (r : State) → Stands x m c u r → f .a < x .vertices → f .b < x .vertices → q ≡ any (slotHas (f .a ∷ f .b ∷ f .c ∷ [])) (r .slots)) where
+      module _ (m3 : m ≡ 3) {f : Triple} (ef : f ≡ tripleAt u (x .area)) {q : Bool} (search : (m c : ℕ) (r : State) → SlotsStand x m c u r → f .a < x .vertices → f .b < x .vertices → q ≡ any (slotHas (f .a ∷ f .b ∷ f .c ∷ [])) (r .slots)) where
         abbrev face : List ℕ
         face = f .a ∷ f .b ∷ f .c ∷ []
 
@@ -185,7 +185,7 @@ module _ {x : Index} {n : ℕ} {t : Tried} {w : List ℕ} {s : State} (μ : Meas
         third-below : f .c < x .vertices
         third-below = below (f .c) (mem-there (f .c) (f .a) (f .b ∷ f .c ∷ []) (mem-there (f .c) (f .b) (f .c ∷ []) (mem-here (f .c) [])))
 
-        after : Stands x n (t .slots) u s
+        after : SlotsStand x n (t .slots) u s
         after = stands-kept (h .stands) same-all
 
         -- whether a live element has the face

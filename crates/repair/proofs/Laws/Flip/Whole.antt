@@ -31,7 +31,7 @@ use Rattle.mesh.proofs.Laws.About.Calls.{Copied, live-count, live-copied}
 use Rattle.repair.specs.declared.flip.counts.Tried.{Tried}
 use Rattle.repair.specs.declared.flip.counts.Lists.{Lists}
 use Rattle.repair.specs.Flip.{State, live, listedEdges, tryFaces, tryEdges, flips}
-use Rattle.repair.specs.inside.flip.Layout.{FlipRoom, Stands, FacesBound, EdgesBound}
+use Rattle.repair.specs.inside.flip.Layout.{FlipRoom, SlotsStand, FacesBound, EdgesBound}
 use Rattle.repair.specs.inside.flip.Tries.{Holds, Went, Start, FacesListed, EdgesListed, edgeRow, faceRowsAt, edgeRowsAt, Begun}
 use Rattle.repair.specs.inside.flip.Finish.{EndRoom, flipEnd}
 use Rattle.repair.specs.inside.flip.Fitting.{FlipFitting, flipLast, flipWhole}
@@ -105,7 +105,7 @@ module _ (z : Sizes) (points : List Float) (es ss w₀ : List ℕ) (fit : FlipFi
         edges-went =
             tried₂ (listedEdges (measure ps) ts) faced (faces-went .holds) rows-kept (edges-listed (x .vertices) ps ts well) (faces-edges n (faced .slots) (faces-went .room))
 
-        stands : Stands x n (u .slots) w₃ edged
+        stands : SlotsStand x n (u .slots) w₃ edged
         stands = edges-went .holds .stands
 
         room : FlipRoom x n (length w₃)

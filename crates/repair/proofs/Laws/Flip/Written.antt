@@ -24,7 +24,7 @@ use Rattle.mesh.proofs.Laws.Star.Hanging.{length-appended, appended-outside, ap
 use Rattle.repair.specs.Flip.{State}
 use Rattle.repair.specs.inside.Layout.{slotOk, slotsIn}
 use Rattle.repair.specs.inside.improve.Collapse.{putSlot}
-use Rattle.repair.specs.inside.flip.Layout.{FlipRoom, Stands, Kept, facesAt, slotOf}
+use Rattle.repair.specs.inside.flip.Layout.{FlipRoom, SlotsStand, Kept, facesAt, slotOf}
 use Rattle.repair.proofs.Laws.Layout.{area-at}
 use Rattle.repair.proofs.Laws.Project.Lists.{map-set}
 use Rattle.repair.proofs.Laws.Improve.Edges.{every-append}
@@ -71,7 +71,7 @@ every-set p (x ∷ l) (suc i) a h g = rw (and-fst (p x) (every p l) h) (every-se
 
 -- ---- a slot emptied
 
-module _ {x : Index} {n c : ℕ} {w : List ℕ} {s : State} (z : Stands x n c w s) (e : ℕ) where
+module _ {x : Index} {n c : ℕ} {w : List ℕ} {s : State} (z : SlotsStand x n c w s) (e : ℕ) where
   laid : Laid x (length w)
   laid = room-laid (z .room)
 
@@ -111,7 +111,7 @@ module _ {x : Index} {n c : ℕ} {w : List ℕ} {s : State} (z : Stands x n c w 
       | inr a ↦ elim (side p (4 * e + 4)) [ inl b ↦ inl (large p a b) | inr b ↦ inr (put-other w (x .slots + 4 * e) goneTet (x .slots + p) (λ q. omega arith)) ]
     ]
 
-    stands : Stands x n c u (record { slots = set (s .slots) e none; flips = s .flips })
+    stands : SlotsStand x n c u (record { slots = set (s .slots) e none; flips = s .flips })
     stands = record {
       room = subst (FlipRoom x n) (sym long) (z .room);
       fits = z .fits;
@@ -123,8 +123,8 @@ module _ {x : Index} {n c : ℕ} {w : List ℕ} {s : State} (z : Stands x n c w 
     kept : Kept x w u
     kept = record { long = long; listed = λ j a b. let l = laid .lengths in let k = laid .heads in behind j (omega arith) }
 
-    pub slot-emptied : (v : List ℕ) → v ≡ putSlot w (x .slots + 4 * e) goneTet → Stands x n c v (record { slots = set (s .slots) e none; flips = s .flips }) × Kept x w v
-    slot-emptied v i = subst (λ (y : List ℕ). Stands x n c y (record { slots = set (s .slots) e none; flips = s .flips }) × Kept x w y) (sym i) (stands, kept)
+    pub slot-emptied : (v : List ℕ) → v ≡ putSlot w (x .slots + 4 * e) goneTet → SlotsStand x n c v (record { slots = set (s .slots) e none; flips = s .flips }) × Kept x w v
+    slot-emptied v i = subst (λ (y : List ℕ). SlotsStand x n c y (record { slots = set (s .slots) e none; flips = s .flips }) × Kept x w y) (sym i) (stands, kept)
 
 -- ---- a slot added
 
@@ -152,7 +152,7 @@ pub appended-is : (x : Index) (i j : ℕ) (w : List ℕ) → Laid x (length w) �
 unfolding appended hasSlots
 appended-is x i j w l hi hj = rw (laid-yes x (length w) l, le-leb i j hi, le-leb j (x .room) hj)
 
-module _ {x : Index} {n c : ℕ} {w : List ℕ} {s : State} (z : Stands x n c w s) (t : Tet) (ok : wellNumbered (x .vertices) t ≡ true) (room : c < x .room) where
+module _ {x : Index} {n c : ℕ} {w : List ℕ} {s : State} (z : SlotsStand x n c w s) (t : Tet) (ok : wellNumbered (x .vertices) t ≡ true) (room : c < x .room) where
   abbrev put : List ℕ
   put = putSlot w (x .slots + 4 * c) t
 
@@ -200,8 +200,8 @@ module _ {x : Index} {n c : ℕ} {w : List ℕ} {s : State} (z : Stands x n c w 
       let e : c + 1 ≡ suc c = omega arith in
       ap (λ (k : ℕ). slotsIn x k after) e ∙ tets-last c (x .slots) after ∙ ap₂ (λ (l : List Tet) (q : Tet). l ++ (q ∷ [])) first-words last-word
 
-  pub slot-added : (v : List ℕ) → v ≡ after → Stands x n (c + 1) v (record { slots = s .slots ++ (some t ∷ []); flips = s .flips }) × Kept x w v
-  slot-added v i = subst (λ (y : List ℕ). Stands x n (c + 1) y (record { slots = s .slots ++ (some t ∷ []); flips = s .flips }) × Kept x w y) (sym i) (
+  pub slot-added : (v : List ℕ) → v ≡ after → SlotsStand x n (c + 1) v (record { slots = s .slots ++ (some t ∷ []); flips = s .flips }) × Kept x w v
+  slot-added v i = subst (λ (y : List ℕ). SlotsStand x n (c + 1) y (record { slots = s .slots ++ (some t ∷ []); flips = s .flips }) × Kept x w y) (sym i) (
     record {
       room = subst (FlipRoom x n) (sym after-long) (z .room);
       fits = omega arith;

@@ -38,7 +38,7 @@ use Rattle.repair.proofs.Laws.Improve.Single.{Distinct, size}
 use Rattle.repair.proofs.Laws.Improve.Uses.{uses, renumber-step, points-kept}
 use Rattle.repair.proofs.Laws.Improve.Scores.{Floor, floor-of, smaller-left, smaller-right, lowest-keeps, lowest-least, tenth-exact, one-exact}
 use Rattle.repair.proofs.Laws.Improve.Points.{taken-sized, scores-exact}
-use Rattle.repair.proofs.Laws.Improve.Rounds.{Kept, rounds-kept}
+use Rattle.repair.proofs.Laws.Improve.Rounds.{ElementsKept, rounds-kept}
 
 -- no number at the end: none at the boundary
 end-boundary : (m : Mesh) → endNumber m ≡ 0 → boundaryNumber (m .elements) ≡ 0
@@ -86,7 +86,7 @@ module _ (m : Mesh) (S : Sound m) where
       le-trans (smaller-right tenth (lowestOf (measure (m .points)) (m .elements)) tenth-exact lowest-exact)
       (lowest-least (map (scoreOf (m .points)) (m .elements)) all-exact (Memᴰ·map (scoreOf (m .points)) i))
 
-  start-kept : Kept (size m) (map verticesOf (m .elements)) (measure (m .points)) (floorUnits m) (record { elements = m .elements; replaced = [] })
+  start-kept : ElementsKept (size m) (map verticesOf (m .elements)) (measure (m .points)) (floorUnits m) (record { elements = m .elements; replaced = [] })
   start-kept = record { run = start; above = S .upright; floor = λ t i. floor-of (floorUnits m) 0 (scoreOf (m .points) t) (floor-score t i); gone = λ v i t j. absurd (mem-nil v i) }
 
 -- ---- the end
@@ -118,7 +118,7 @@ unfolding improve
 improve-made o m n count h = made-by (measure (m .points)) o m n count h
 
 module _ (o : Options) (m : Mesh) (S : Sound m) (d : Distinct o (m .parameters)) where
-  pub last-kept : Kept (size m) (map verticesOf (m .elements)) (measure (m .points)) (floorUnits m) (last o m)
+  pub last-kept : ElementsKept (size m) (map verticesOf (m .elements)) (measure (m .points)) (floorUnits m) (last o m)
   last-kept =
       rounds-kept o m (measure (m .points)) (map verticesOf (m .elements)) (floorUnits m) (subst (λ n. Proper n (map verticesOf (m .elements))) (sym (S .counted)) (S .proper)) d (scores-exact (m .points) (S .sized)) (floor-tenth m S)
       (o .passes) (record { elements = m .elements; replaced = [] }) (start-kept m S)

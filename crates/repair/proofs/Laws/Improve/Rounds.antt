@@ -82,7 +82,7 @@ collapsed-gone a b ts v t m h =
 
 -- ---- what a collapse keeps
 
-pub record Kept (n : ℕ) (es : List (List ℕ)) (μ : Measure) (U : ℕ) (s : State) : Type 0 where
+pub record ElementsKept (n : ℕ) (es : List (List ℕ)) (μ : Measure) (U : ℕ) (s : State) : Type 0 where
   pub run : Run n es n (map verticesOf (s .elements))
   pub above : (t : Tet) → List·Memᴰ t (s .elements) → μ .above t ≡ true
   pub floor : (t : Tet) → List·Memᴰ t (s .elements) → Floor U (length (s .replaced)) (μ .score t)
@@ -90,11 +90,11 @@ pub record Kept (n : ℕ) (es : List (List ℕ)) (μ : Measure) (U : ℕ) (s : S
   pub gone : (v : ℕ) → mem v (s .replaced) ≡ true → (t : Tet) → List·Memᴰ t (s .elements) → has v t ≡ false
 
 module _ (o : Options) (m : Mesh) (μ : Measure) (es : List (List ℕ)) (U : ℕ) (P : Proper (size m) es) (d : Distinct o (m .parameters)) (exact : (t : Tet) → Exact (μ .score t)) (low : U ≤ unitsOf tenth) where
-  kept-proper : (s : State) → Kept (size m) es μ U s → Proper (size m) (map verticesOf (s .elements))
+  kept-proper : (s : State) → ElementsKept (size m) es μ U s → Proper (size m) (map verticesOf (s .elements))
   kept-proper s k = run-keeps (size m) es P (k .run) .0
 
-  collapse-kept : (s : State) (a b : ℕ) → a ≢ b → mem b (s .replaced) ≡ false → Goes o m d μ s a b → Kept (size m) es μ U s
-      → Kept (size m) es μ U (record { elements = collapsed (pair a b ∷ []) (s .elements); replaced = a ∷ s .replaced })
+  collapse-kept : (s : State) (a b : ℕ) → a ≢ b → mem b (s .replaced) ≡ false → Goes o m d μ s a b → ElementsKept (size m) es μ U s
+      → ElementsKept (size m) es μ U (record { elements = collapsed (pair a b ∷ []) (s .elements); replaced = a ∷ s .replaced })
   collapse-kept s a b ab nb g k =
       let one : List Pair = pair a b ∷ [] in
       let ts = s .elements in
@@ -114,14 +114,14 @@ module _ (o : Options) (m : Mesh) (μ : Measure) (es : List (List ℕ)) (U : ℕ
         ]);
       }
 
-  go-kept : (s : State) (a b : ℕ) → Joined (size m) a b → Tried o m μ s a b → Kept (size m) es μ U s → Kept (size m) es μ U (go o m μ s a b)
+  go-kept : (s : State) (a b : ℕ) → Joined (size m) a b → Tried o m μ s a b → ElementsKept (size m) es μ U s → ElementsKept (size m) es μ U (go o m μ s a b)
   go-kept s a b j t k =
       let g = goes o m d μ s a b (j .first) (j .second) (t .first-there) (t .second-there) (t .may) in
-      subst (λ (ps : List Pair). Kept (size m) es μ U (record { elements = collapsed ps (s .elements); replaced = map (λ e. e .a) ps ++ s .replaced })) (sym (g .pairs))
+      subst (λ (ps : List Pair). ElementsKept (size m) es μ U (record { elements = collapsed ps (s .elements); replaced = map (λ e. e .a) ps ++ s .replaced })) (sym (g .pairs))
       (collapse-kept s a b (j .differ) (t .second-there) g k)
 
   -- so do all rounds
-  pub rounds-kept : (k : ℕ) (s : State) → Kept (size m) es μ U s → Kept (size m) es μ U (rounds o m μ k s)
+  pub rounds-kept : (k : ℕ) (s : State) → ElementsKept (size m) es μ U s → ElementsKept (size m) es μ U (rounds o m μ k s)
   rounds-kept k s h =
-      rounds-keep o m μ (joins (size m)) (Joined (size m)) (λ e j. (joined (size m) e j, joined-back (size m) (e .a) (e .b) (joined (size m) e j))) (Kept (size m) es μ U) go-kept
+      rounds-keep o m μ (joins (size m)) (Joined (size m)) (λ e j. (joined (size m) e j, joined-back (size m) (e .a) (e .b) (joined (size m) e j))) (ElementsKept (size m) es μ U) go-kept
       (λ r q. listed-join (size m) μ (spacing o) (r .elements) (kept-proper r q)) k s h

@@ -13,7 +13,7 @@ use Rattle.mesh.specs.declared.element.Tet.{Tet}
 use Rattle.mesh.specs.declared.star.Index.{Index}
 use Rattle.mesh.specs.Words.{wordAt}
 use Rattle.mesh.specs.Feature.{onto}
-use Rattle.mesh.specs.inside.Star.{goneWord, goneTet, cornerAt, lengthOf, chainOf, setChain, mayJoin, joined, Chains, Complete, Laid}
+use Rattle.mesh.specs.inside.Star.{goneWord, goneTet, cornerAt, chainLength, chainOf, setChain, mayJoin, joined, Chains, Complete, Laid}
 use Rattle.mesh.proofs.Laws.Complex.Sets.{split}
 use Rattle.mesh.proofs.Laws.Star.Layout.{laid-yes}
 use Rattle.mesh.proofs.Laws.Star.Chains.{chains-kept}
@@ -94,11 +94,11 @@ narrow-laid x m l = record {
 }
 
 narrow-chains : (x : Index) (s : List ℕ) (k : ℕ) → Chains x s k → Chains (narrow x) s k
-unfolding chainOf lengthOf
+unfolding chainOf chainLength
 narrow-chains x s k c = record { whole = c .whole; once = c .once; below = c .below; apart = c .apart }
 
 narrow-joined : (x : Index) (s : List ℕ) (b a : ℕ) → Laid x (length s) → joined (narrow x) b a s ≡ joined x b a s
-unfolding joined mayJoin setChain lengthOf
+unfolding joined mayJoin setChain chainLength
 narrow-joined x s b a l = rw (laid-yes x (length s) l, laid-yes (narrow x) (length s) (narrow-laid x (length s) l)) refl
 
 -- words before the chains, and from the listed edges on, stay

@@ -24,7 +24,7 @@ use Rattle.mesh.proofs.Laws.Star.Calls.{tets-same, written-complete}
 use Rattle.repair.specs.Mesh.{Mesh}
 use Rattle.repair.specs.Improve.{State, image, collapsed}
 use Rattle.repair.specs.inside.Layout.{Room, Stands, flagsAt, pairsAt, edgesAt, slotsIn, liveIn, slotOk}
-use Rattle.repair.specs.inside.improve.Collapse.{Kept, slotsReplaced}
+use Rattle.repair.specs.inside.improve.Collapse.{ListsKept, slotsReplaced}
 use Rattle.repair.proofs.Laws.Replace.Slots.{all-ok, live-after, live-same}
 use Rattle.repair.proofs.Laws.Replace.Star.{After, star-after}
 use Rattle.repair.proofs.Laws.Layout.{room-laid}
@@ -92,7 +92,7 @@ module _ (o : Options) (m : Mesh) (x : Index) (n a : ℕ) (w u : List ℕ) (s : 
   }
 
   -- the pairs and the listed edges are as they were, where they are in u
-  pub kept-after : ((j : ℕ) → pairsAt x ≤ j → j < x .slots → wordAt u j ≡ wordAt w j) → ((j : ℕ) → edgesAt x ≤ j → j < x .area → wordAt u j ≡ wordAt w j) → Kept x w flagged
+  pub kept-after : ((j : ℕ) → pairsAt x ≤ j → j < x .slots → wordAt u j ≡ wordAt w j) → ((j : ℕ) → edgesAt x ≤ j → j < x .area → wordAt u j ≡ wordAt w j) → ListsKept x w flagged
   kept-after f g =
       record {
         long = length-set u (flagsAt x + a) 1 ∙ long;
@@ -104,7 +104,7 @@ module _ (o : Options) (m : Mesh) (x : Index) (n a : ℕ) (w u : List ℕ) (s : 
 
 module _ (o : Options) (m : Mesh) (x : Index) (n a b : ℕ) (w : List ℕ) (s : State) (st : Stands o m x n w s) (ha : a < x .vertices) where
   abbrev Went : List ℕ → Type 0
-  Went v = Kept x w v × Stands o m x n v (record { elements = collapsed (pair a b ∷ []) (s .elements); replaced = a ∷ s .replaced })
+  Went v = ListsKept x w v × Stands o m x n v (record { elements = collapsed (pair a b ∷ []) (s .elements); replaced = a ∷ s .replaced })
 
   -- into itself: it is flagged
   pub self-goes : (v : List ℕ) → a ≡ b → v ≡ set w (flagsAt x + a) 1 → Went v

@@ -17,7 +17,7 @@ use Rattle.mesh.proofs.Laws.Star.Distinct.{length-distinct}
 use Rattle.mesh.proofs.Laws.Star.Answers.{about-short}
 use Rattle.repair.specs.Improve.{image, collapsed}
 use Rattle.repair.specs.inside.Layout.{Room, Pairs, Stands, liveIn, slotsIn, pairsAt, pairsIn}
-use Rattle.repair.specs.inside.improve.Collapse.{slotAfter, slotAt, putSlot, slotReplaced, slotsReplaced, Kept, Replaces, Goes, AllGo}
+use Rattle.repair.specs.inside.improve.Collapse.{slotAfter, slotAt, putSlot, slotReplaced, slotsReplaced, ListsKept, Replaces, Goes, AllGo}
 use Rattle.repair.proofs.Laws.Replace.Slots.{live-same}
 use Rattle.repair.proofs.Laws.Layout.{room-laid}
 use Rattle.repair.proofs.Laws.Replace.Pairs.{collapsed-more, pair-here, pairs-drop, pairs-at, length-pairs}
@@ -80,7 +80,7 @@ module _ (x : Index) (n k : ℕ) (v : List ℕ) where
   pub left-start : Left v k
   unfolding liveIn image
   left-start p o m s st =
-      subst (λ (es : List Pair). Kept x v v × Stands o m x n v (record { elements = collapsed es (s .elements); replaced = map (λ e. e .a) es ++ s .replaced }))
+      subst (λ (es : List Pair). ListsKept x v v × Stands o m x n v (record { elements = collapsed es (s .elements); replaced = map (λ e. e .a) es ++ s .replaced }))
       (sym (ap (λ (i : ℕ). drop i (pairsIn x k v)) (sym (length-pairs k (drop (pairsAt x) v))) ∙ drop-length (pairsIn x k v))) (
         record { long = refl; pairs = λ j f g. refl; edges = λ j f g. refl },
         record {
@@ -113,7 +113,7 @@ module _ (x : Index) (n k : ℕ) (v : List ℕ) where
         let pd : Pairs (x .vertices) (pair a b ∷ drop i es) = subst (Pairs (x .vertices)) d (pairs-drop (x .vertices) (i - 1) es p) in
         let y = pd .below (pair a b) (pair-here (pair a b) (drop i es)) in
         let z = g (y .0) (y .1) o m (record { elements = collapsed (drop i es) (s .elements); replaced = map (λ e. e .a) (drop i es) ++ s .replaced }) (q .1) in
-        subst (λ (fs : List Pair). Kept x v u × Stands o m x n u (record { elements = collapsed fs (s .elements); replaced = map (λ e. e .a) fs ++ s .replaced })) (sym d) (
+        subst (λ (fs : List Pair). ListsKept x v u × Stands o m x n u (record { elements = collapsed fs (s .elements); replaced = map (λ e. e .a) fs ++ s .replaced })) (sym d) (
           record {
             long = z .0 .long ∙ q .0 .long;
             pairs = λ j c₁ c₂. z .0 .pairs j c₁ c₂ ∙ q .0 .pairs j c₁ c₂;

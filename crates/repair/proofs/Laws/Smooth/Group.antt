@@ -37,7 +37,7 @@ use Rattle.repair.proofs.Laws.Smooth.Sizes.{sized-near, box-near}
 use Rattle.repair.proofs.Laws.Smooth.Placed.{placed-all, placed-other, length-placed, away, same-determinant, same-score}
 
 -- what holds of the points all along: within 2 ^ 20, every determinant above 0, every score at least F units
-pub record Kept (ts : List Tet) (F : ℕ) (ps : List Point) : Type 0 where
+pub record PointsKept (ts : List Tet) (F : ℕ) (ps : List Point) : Type 0 where
   pub near : AllNear ps
   pub upright : (t : Tet) → List·Memᴰ t ts → lt zero64 (determinantOf ps t) ≡ true
   pub floor : (t : Tet) → List·Memᴰ t ts → F ≤ unitsOf (scoreOf ps t)
@@ -146,8 +146,8 @@ module _ (o : Options) (low : sizedPoint (o .bounds .lo) ≡ true) (high : sized
 
 module _ (o : Options) (low : sizedPoint (o .bounds .lo) ≡ true) (high : sizedPoint (o .bounds .hi) ≡ true) (fields : List Field) (regions : Option (List ℕ))
     (m : Mesh) (F : ℕ) (one : F ≤ unitsOf one64) where
-  taken-keeps : (s : State) (g : List ℕ) (k : Kept (m .elements) F (s .points)) (r : Option Point)
-      → ((p : Point) → r ≡ some p → Fine o low high s (k .near) g (aboutGroup (m .elements) g) F p) → Kept (m .elements) F (taken o fields regions m s g r .points)
+  taken-keeps : (s : State) (g : List ℕ) (k : PointsKept (m .elements) F (s .points)) (r : Option Point)
+      → ((p : Point) → r ≡ some p → Fine o low high s (k .near) g (aboutGroup (m .elements) g) F p) → PointsKept (m .elements) F (taken o fields regions m s g r .points)
   taken-keeps s g k none f = k
   taken-keeps s g k (some p) f = record {
     near = moved-near o high s g p (k .near) (f p refl .inside);
@@ -161,7 +161,7 @@ module _ (o : Options) (low : sizedPoint (o .bounds .lo) ≡ true) (high : sized
     ];
   }
 
-  best-fine : (s : State) (v : ℕ) (g : List ℕ) (k : Kept (m .elements) F (s .points)) (p : Point) → bestFor o fields regions m s v g .found ≡ some p
+  best-fine : (s : State) (v : ℕ) (g : List ℕ) (k : PointsKept (m .elements) F (s .points)) (p : Point) → bestFor o fields regions m s v g .found ≡ some p
       → Fine o low high s (k .near) g (aboutGroup (m .elements) g) F p
   unfolding bestFor
   best-fine s v g k p e =
@@ -179,17 +179,17 @@ module _ (o : Options) (low : sizedPoint (o .bounds .lo) ≡ true) (high : sized
       never q z = let y : _≡_ {A = ℕ} 0 1 = cc in omega arith
 
   -- a group's turn keeps all of it
-  pub group-keeps : (s : State) (g : List ℕ) → Kept (m .elements) F (s .points) → Kept (m .elements) F (smoothGroup o fields regions m s g .points)
+  pub group-keeps : (s : State) (g : List ℕ) → PointsKept (m .elements) F (s .points) → PointsKept (m .elements) F (smoothGroup o fields regions m s g .points)
   unfolding smoothGroup
   group-keeps s [] k = k
   group-keeps s (v ∷ g) k = go (lt (lowestOf (measure (s .points)) (aboutGroup (m .elements) (v ∷ g))) fifteenHundredths)
     where
-      go : (t : Bool) → Kept (m .elements) F (cond t (taken o fields regions m s (v ∷ g) (bestFor o fields regions m s v (v ∷ g) .found)) s .points)
+      go : (t : Bool) → PointsKept (m .elements) F (cond t (taken o fields regions m s (v ∷ g) (bestFor o fields regions m s v (v ∷ g) .found)) s .points)
       go true = taken-keeps s (v ∷ g) k (bestFor o fields regions m s v (v ∷ g) .found) (best-fine s v (v ∷ g) k)
       go false = k
 
   -- and so do all groups
-  pub groups-keep : (s : State) (gs : List (List ℕ)) → Kept (m .elements) F (s .points) → Kept (m .elements) F (smoothGroups o fields regions m s gs .points)
+  pub groups-keep : (s : State) (gs : List (List ℕ)) → PointsKept (m .elements) F (s .points) → PointsKept (m .elements) F (smoothGroups o fields regions m s gs .points)
   unfolding smoothGroups
   groups-keep s [] k = k
   groups-keep s (g ∷ gs) k = groups-keep (smoothGroup o fields regions m s g) gs (group-keeps s g k)

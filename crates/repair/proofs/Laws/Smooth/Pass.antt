@@ -22,7 +22,7 @@ use Rattle.repair.specs.Mesh.{Mesh, made}
 use Rattle.repair.specs.Wholeness.{Exact}
 use Rattle.repair.specs.Smooth.{State, smoothGroups, smooth}
 use Rattle.repair.proofs.Laws.Smooth.Scores.{AllNear, score-exact, lowest-exact, lowest-one, lowest-under, lowest-over, no-loss}
-use Rattle.repair.proofs.Laws.Smooth.Group.{Kept, Long, groups-keep, groups-long}
+use Rattle.repair.proofs.Laws.Smooth.Group.{PointsKept, Long, groups-keep, groups-long}
 use Rattle.repair.proofs.Laws.Results.{mesh-of}
 
 -- the mesh m′ that `smooth` makes of m
@@ -61,7 +61,7 @@ module _ (o : Options) (low : sizedPoint (o .bounds .lo) ≡ true) (high : sized
       F : ℕ
       F = unitsOf (lowestOf (measure (m .points)) (m .elements))
 
-      kept : Kept (m .elements) F (smoothGroups o fields regions m start (groups o (m .parameters)) .points)
+      kept : PointsKept (m .elements) F (smoothGroups o fields regions m start (groups o (m .parameters)) .points)
       kept =
           groups-keep o low high fields regions m F (lowest-one (scoreOf (m .points)) (score-exact (m .points) near) (m .elements)) start (groups o (m .parameters))
           (record { near = near; upright = upright; floor = λ t i. lowest-under (scoreOf (m .points)) (score-exact (m .points) near) (m .elements) i })

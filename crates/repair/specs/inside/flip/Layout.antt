@@ -45,8 +45,8 @@ pub record FlipRoom (x : Index) (n m : ℕ) : Type 0 where
 unfoldable pub slotOf : Tet → Option Tet
 slotOf t = cond (gone t) none (some t)
 
--- the work slice stands for the state s, which has c slots
-pub record Stands (x : Index) (n c : ℕ) (w : List ℕ) (s : State) : Type 0 where
+-- the first c slots of the work slice stand for the state s
+pub record SlotsStand (x : Index) (n c : ℕ) (w : List ℕ) (s : State) : Type 0 where
   pub room : FlipRoom x n (length w)
   pub fits : c ≤ x .room
   pub slots : s .slots ≡ map slotOf (slotsIn x c w)

@@ -13,7 +13,7 @@ use Rattle.mesh.specs.inside.Rows.{rows}
 use Rattle.mesh.specs.inside.List.{badEdges}
 use Rattle.mesh.specs.inside.Shared.{sharedRow, sharedFaces}
 use Rattle.repair.specs.inside.Layout.{Same}
-use Rattle.repair.specs.inside.flip.Layout.{Stands, Kept, facesAt, edgesAt}
+use Rattle.repair.specs.inside.flip.Layout.{SlotsStand, Kept, facesAt, edgesAt}
 use Rattle.repair.specs.inside.flip.Tries.{faceRowsAt, edgeRowsAt}
 
 -- v is w with the shared faces of the elements ts, r of them, in the faces' area
@@ -31,5 +31,5 @@ pub record EdgesLaid (x : Index) (n : ℕ) (ps : List Point) (ts : List Tet) (r 
 
 -- v has the elements ts in the first slots, and what is listed in w
 pub record SlotsLaid (x : Index) (n : ℕ) (ts : List Tet) (w v : List ℕ) : Type 0 where
-  pub stands : Stands x n n v (record { slots = map some ts; flips = 0 })
+  pub stands : SlotsStand x n n v (record { slots = map some ts; flips = 0 })
   pub kept : Kept x w v

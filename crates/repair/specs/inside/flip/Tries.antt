@@ -21,14 +21,14 @@ use Rattle.repair.specs.declared.flip.counts.Tried.{Tried}
 use Rattle.repair.specs.declared.flip.counts.Places.{Places}
 use Rattle.repair.specs.declared.flip.counts.Lists.{Lists}
 use Rattle.repair.specs.Flip.{State, numbersWith}
-use Rattle.repair.specs.inside.flip.Layout.{Stands, Kept, facesAt, edgesAt}
+use Rattle.repair.specs.inside.flip.Layout.{SlotsStand, Kept, facesAt, edgesAt}
 use Rattle.repair.specs.inside.flip.Trio.{elementsOf}
 
 -- ---- the state
 
 -- the work slice stands for the state s, which has these numbers of slots and flips
 pub record Holds (x : Index) (n : ℕ) (t : Tried) (w : List ℕ) (s : State) : Type 0 where
-  pub stands : Stands x n (t .slots) w s
+  pub stands : SlotsStand x n (t .slots) w s
   pub flips : s .flips ≡ t .flips
 
 -- numbers small enough to go on with
@@ -100,7 +100,7 @@ edgeRowsAt x n bad = edgesAt x n + 4 * n + 4 * bad
 
 -- the start for the elements ts: all of them live, the shared faces with their owners and the edges of bad elements listed
 pub record Begun (x : Index) (n : ℕ) (ps : List Point) (ts : List Tet) (l : Lists) (w : List ℕ) : Type 0 where
-  pub stands : Stands x n n w (record { slots = map some ts; flips = 0 })
+  pub stands : SlotsStand x n n w (record { slots = map some ts; flips = 0 })
   pub faces : rows 5 (l .faces) (drop (faceRowsAt x n) w) ≡ map (sharedRow ts) (sharedFaces ps ts)
   pub edges : rows 2 (l .edges) (drop (edgeRowsAt x n (l .bad)) w) ≡ badEdges ps ts
   pub fewFaces : l .faces ≤ 4 * n

@@ -40,7 +40,7 @@ slotsReplaced x a b zero p w = w
 slotsReplaced x a b (suc k) p w = slotsReplaced x a b k (p + 1) (slotReplaced x a b (wordAt w p) w)
 
 -- the pairs and the listed edges of t are those of s
-pub record Kept (x : Index) (s t : List ℕ) : Type 0 where
+pub record ListsKept (x : Index) (s t : List ℕ) : Type 0 where
   pub long : length t ≡ length s
   pub pairs : (j : ℕ) → pairsAt x ≤ j → j < x .slots → wordAt t j ≡ wordAt s j
   pub edges : (j : ℕ) → edgesAt x ≤ j → j < x .area → wordAt t j ≡ wordAt s j
@@ -49,7 +49,7 @@ pub record Kept (x : Index) (s t : List ℕ) : Type 0 where
 abbrev pub Replaces : Index → ℕ → List Pair → List ℕ → List ℕ → Type 0
 Replaces x n es v w =
     (o : Options) (m : Mesh) (s : State) → Stands o m x n v s
-    → Kept x v w × Stands o m x n w (record { elements = collapsed es (s .elements); replaced = map (λ e. e .a) es ++ s .replaced })
+    → ListsKept x v w × Stands o m x n w (record { elements = collapsed es (s .elements); replaced = map (λ e. e .a) es ++ s .replaced })
 
 -- a vertex a went into a vertex b
 abbrev pub Goes : Index → ℕ → ℕ → ℕ → List ℕ → List ℕ → Type 0
