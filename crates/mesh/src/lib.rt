@@ -17,6 +17,7 @@ pub mod rows;
 pub mod shared;
 pub mod short;
 pub mod star;
+pub mod strata;
 pub mod vertex;
 pub mod with;
 pub mod words;

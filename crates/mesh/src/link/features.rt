@@ -1,10 +1,9 @@
 // The feature test: the strata of vertices of the boundary about the edge.
 use crate::link::marks::has_mark;
 use crate::rows::run_from;
-use crate::vertex::vertex_point;
-use crate::words::word;
+use crate::strata::shared_bits;
+use crate::strata::stratum_at;
 use geometry::bounds::Bounds;
-use geometry::bounds::stratum;
 ghost use mathlib.Core.Path.{_≡_};
 ghost use mathlib.Core.Bool.{true, _&&_};
 ghost use Prim.Native.Nat.{_+_, _*_, _≤_, _<_};
@@ -18,36 +17,6 @@ ghost use Rattle.mesh.specs.Link.{boundaryAbout};
 ghost use Rattle.mesh.specs.Feature.{bitsOf, shared, featureOk, stratumOf};
 ghost use Rattle.mesh.specs.inside.Group.{runs, sameFirst};
 ghost use Rattle.mesh.specs.inside.LinkRows.{rimBy, curveBy, featureRun, StrataOf, EdgeRows};
-
-// The stratum of the vertex v of nv, below 2 ^ 38.
-pub(crate) fn stratum_at(
-    masks: &[u32],
-    parameters: &[f64],
-    nv: usize,
-    bounds: Bounds,
-    v: u32,
-) -> u64
-    ensures { λ r. ⌜ (r ≡ stratumOf (now (masks .entry)) (pointsOf nv (now (parameters .entry))) bounds v) × (r < 274877906944) ⌝ }
-{
-    let p = vertex_point(parameters, nv, v);
-    stratum(word(masks, v as usize), p, bounds)
-}
-
-// How many bits two strata share.
-fn shared_bits(m: u64, n: u64) -> u32
-    requires { ⌜ m < 274877906944 ⌝ }
-    ensures { λ r. ⌜ r ≡ length (shared m n) ⌝ }
-{
-    u64::count_ones(m & n)
-}
-
-// Whether the bits of a stratum are among those of another.
-pub(crate) fn bits_inside(m: u64, n: u64) -> bool
-    requires { ⌜ m < 274877906944 ⌝ }
-    ensures { λ r. ⌜ r ≡ sub (bitsOf m) (bitsOf n) ⌝ }
-{
-    shared_bits(m, n) == shared_bits(m, m)
-}
 
 // Whether the edge from b to a vertex x after the collapse has the labels that it should have. The ends share sa and sb bits with x, and x lies
 // on a boundary face with a only, with b only, with both.

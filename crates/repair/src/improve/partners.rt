@@ -8,10 +8,11 @@ use geometry::bounds::Bounds;
 use geometry::bounds::Options;
 use geometry::bounds::cap;
 use geometry::bounds::rank;
-use geometry::bounds::stratum;
 use mesh::rows::first_at_least;
 use mesh::rows::run_length;
 use mesh::star::Index;
+use mesh::strata::bits_inside;
+use mesh::strata::stratum_at;
 use mesh::vertex::point_at;
 use mesh::words::high_half;
 use mesh::words::low_half;
@@ -24,11 +25,10 @@ ghost use mathlib.Core.List.{[]};
 ghost use Prim.Native.Nat.{ℕ, _+_, _*_, _^_, _≤_, _<_};
 ghost use lib.Dec.{ltb, eqb};
 ghost use lib.ListN.{length, take, drop};
-ghost use Rattle.geometry.specs.Bounds.{stratum};
 ghost use Rattle.geometry.specs.Rank.{rank};
 ghost use Rattle.mesh.specs.Words.{wordAt, pointsOf, pointIn};
 ghost use Rattle.mesh.specs.inside.Rows.{firstAtLeast};
-ghost use Rattle.mesh.specs.Complex.{mem, sub};
+ghost use Rattle.mesh.specs.Complex.{mem};
 ghost use Rattle.mesh.specs.Feature.{bitsOf};
 ghost use Rattle.mesh.specs.Group.{groupOf};
 ghost use Rattle.mesh.specs.inside.Group.{rankWords};
@@ -44,28 +44,12 @@ struct Run {
     size: usize,
 }
 
-// The stratum of the vertex v.
-fn stratum_at(masks: &[u32], parameters: &[f64], b: Bounds, v: u32) -> u64
-    ensures { λ r. ⌜ (r ≡ stratum (wordAt (now (masks .entry)) v) (pointIn (now (parameters .entry)) v) b) × (r < 2 ^ 38) ⌝ }
-{
-    let i = wide(v);
-    stratum(word(masks, i), point_at(parameters, i), b)
-}
-
 // Whether a stratum has fewer than three bits.
 fn has_few(x: u64) -> bool
     requires { ⌜ x < 2 ^ 38 ⌝ }
     ensures { λ r. ⌜ r ≡ ltb (length (bitsOf x)) 3 ⌝ }
 {
     u64::count_ones(x) < 3
-}
-
-// Whether y has all bits of the stratum x.
-fn is_inside(x: u64, y: u64) -> bool
-    requires { ⌜ x < 2 ^ 38 ⌝ }
-    ensures { λ r. ⌜ r ≡ sub (bitsOf x) (bitsOf y) ⌝ }
-{
-    x & y == x
 }
 
 // Whether u's stratum is inside v's and has fewer than three bits.
@@ -80,11 +64,11 @@ pub(crate) fn stratum_rule(
     requires { ⌜ (u < nv) × (v < nv) ⌝ }
     ensures { λ r. ⌜ ((o : Options) (m : Mesh) → o .bounds ≡ b → m .masks ≡ take nv (now (masks .entry)) → m .parameters ≡ pointsOf nv (now (parameters .entry)) → r ≡ stratumRule o m u v) ⌝ }
 {
-    let x = stratum_at(masks, parameters, b, u);
+    let x = stratum_at(masks, parameters, nv, b, u);
     if !has_few(x) {
         return false;
     }
-    is_inside(x, stratum_at(masks, parameters, b, v))
+    bits_inside(x, stratum_at(masks, parameters, nv, b, v))
 }
 
 // The first of n sorted rows that is no earlier than v's rank.

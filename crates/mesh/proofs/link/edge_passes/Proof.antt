@@ -12,9 +12,9 @@ use Rattle.mesh.proofs.link.edge_passes.Statement.{statement}
 use Rattle.mesh.proofs.link.edge_passes.Tie as tie
 use Rattle.mesh.proofs.link.edge_passes.Reads as reads
 use Rattle.mesh.proofs.link.edge_passes.Lts as lts
-use Rattle.mesh.proofs.link.features.bits_inside.Reads as bits-inside-reads
+use Rattle.mesh.proofs.strata.bits_inside.Reads as bits-inside-reads
 use Rattle.mesh.proofs.link.edge_ok.Reads as edge-ok-reads
-use Rattle.mesh.proofs.link.features.stratum_at.Reads as stratum-at-reads
+use Rattle.mesh.proofs.strata.stratum_at.Reads as stratum-at-reads
 
 returns : tie.Need-returns
 returns c = (passes-self (stratumOf (c .before .before .before .before .args .masks .now) (pointsOf (c .before .before .before .before .args .nv) (c .before .before .before .before .args .parameters .now)) (c .before .before .before .before .args .bounds)) (c .before .before .before .before .args .a) (c .before .before .before .before .args .b) (tets (c .before .before .before .before .args .n) (c .before .before .before .before .args .area .now)) (c .before .before .before .before .pre .2) (c .if1 .taken), record { front = refl; long = refl })

@@ -11,7 +11,7 @@ use Rattle.mesh.proofs.link.features.feature_ok_in.Reads as reads
 use Rattle.mesh.proofs.link.features.feature_ok_in.Lts as lts
 use Rattle.mesh.proofs.link.features.features_pass.Reads as features-pass-reads
 use Rattle.mesh.proofs.link.marks.has_mark.Reads as has-mark-reads
-use Rattle.mesh.proofs.link.features.stratum_at.Reads as stratum-at-reads
+use Rattle.mesh.proofs.strata.stratum_at.Reads as stratum-at-reads
 
 mul-has-mark : tie.Need-mul-has-mark
 mul-has-mark c = omega (arith, (c .before .before .before .pre .0 .few))

@@ -10,7 +10,7 @@ use Rattle.mesh.proofs.link.features.feature_run.Tie as tie
 use Rattle.mesh.proofs.link.features.feature_run.Reads as reads
 use Rattle.mesh.proofs.link.features.feature_run.Lts as lts
 use Rattle.mesh.proofs.link.marks.has_mark.Reads as has-mark-reads
-use Rattle.mesh.proofs.link.features.stratum_at.Reads as stratum-at-reads
+use Rattle.mesh.proofs.strata.stratum_at.Reads as stratum-at-reads
 use Rattle.mesh.proofs.link.features.vertex_by.Reads as vertex-by-reads
 
 mul-x : tie.Need-mul-x

@@ -10,7 +10,7 @@ use Rattle.mesh.proofs.link.features.vertex_by.Reads as reads
 use Rattle.mesh.proofs.link.features.vertex_by.Lts as lts
 use Rattle.mesh.proofs.link.features.curve_by.Reads as curve-by-reads
 use Rattle.mesh.proofs.link.features.rim_by.Reads as rim-by-reads
-use Rattle.mesh.proofs.link.features.shared_bits.Reads as shared-bits-reads
+use Rattle.mesh.proofs.strata.shared_bits.Reads as shared-bits-reads
 
 shared-bits-requires : tie.Need-shared-bits-requires
 shared-bits-requires c κs = search needs

@@ -1,4 +1,4 @@
--- `mesh::link::features::stratum_at` meets its contract, call by call. Assumes nothing.
+-- `mesh::strata::stratum_at` meets its contract, call by call. Assumes nothing.
 use mathlib.Core.Path.{sym, ap₂, subst, _∙_}
 use Prim.Native.Nat.{ℕ, _<_}
 use native.Mathlib.Omega.{arith}
@@ -6,10 +6,10 @@ use Rattle.geometry.specs.declared.point.Point.{Point}
 use Rattle.geometry.specs.Bounds.{stratum}
 use Rattle.geometry.proofs.Laws.Box.Cap.{stratum-lt}
 use borrow.Author.Needs.{needs}
-use Rattle.mesh.proofs.link.features.stratum_at.Statement.{statement}
-use Rattle.mesh.proofs.link.features.stratum_at.Tie as tie
-use Rattle.mesh.proofs.link.features.stratum_at.Reads as reads
-use Rattle.mesh.proofs.link.features.stratum_at.Lts as lts
+use Rattle.mesh.proofs.strata.stratum_at.Statement.{statement}
+use Rattle.mesh.proofs.strata.stratum_at.Tie as tie
+use Rattle.mesh.proofs.strata.stratum_at.Reads as reads
+use Rattle.mesh.proofs.strata.stratum_at.Lts as lts
 use Rattle.geometry.proofs.bounds.stratum.Reads as stratum-reads
 use Rattle.mesh.proofs.vertex.vertex_point.Reads as vertex-point-reads
 use Rattle.mesh.proofs.words.word.Reads as word-reads
