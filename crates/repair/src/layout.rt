@@ -20,6 +20,9 @@ pub(crate) const ROW_WORDS: usize = 7;
 // How many of them are the rank's. The vertex stands behind them.
 pub(crate) const RANK_WORDS: usize = 6;
 
+// How many words the groups take for a vertex while they are sorted: a row, and as much scratch.
+pub(crate) const SORT_WORDS: usize = 14;
+
 // The layout for nv vertices and n elements, both within document 01's limits.
 pub(crate) fn layout(nv: u32, n: u32) -> Index
     requires { ⌜ (nv ≤ 4096) × (n ≤ 16384) ⌝ }

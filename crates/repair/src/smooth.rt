@@ -9,6 +9,7 @@ mod trial_scores;
 use crate::answer::Answer;
 use crate::layout::RANK_WORDS;
 use crate::layout::ROW_WORDS;
+use crate::layout::SORT_WORDS;
 use crate::layout::layout;
 use crate::smooth::candidates::mean_of;
 use crate::smooth::choose::Best;
@@ -48,6 +49,10 @@ ghost use Rattle.mesh.specs.Measure.{measure, lowestOf};
 ghost use Rattle.repair.specs.Smooth.{mean, bestFor, smoothGroup, smoothGroups};
 ghost use Rattle.repair.specs.inside.smooth.Site.{members, about, stateOf, bestIn, Turned, SameTo, Ready, Slots, Rows, Listed, Sited, Started, usedWords, meshRead, meshFor, Grouped};
 ghost use Rattle.repair.specs.Step.{State, Pass, held, callOf, regionsOf, numberOf, valuesOf, inNumbers, step};
+
+// How many words an element takes: 32 before the area, one there in a list of elements, 32 behind it in a list of neighbours with its
+// scratch.
+const ELEMENT_WORDS: usize = 65;
 
 // The rows of a group, among the sorted ones: the first of them, and how many.
 struct Run {
@@ -270,7 +275,7 @@ fn used_words(sizes: Sizes) -> usize
     requires { ⌜ (sizes .vertices ≤ 4096) × (sizes .elements ≤ 16384) ⌝ }
     ensures { λ r. ⌜ r ≡ usedWords (sizes .vertices) (sizes .elements) ⌝ }
 {
-    14 * sizes.vertices + 65 * sizes.elements
+    SORT_WORDS * sizes.vertices + ELEMENT_WORDS * sizes.elements
 }
 
 // Smooths every group, in the words that are used, and gives how many vertices have moved. The words are all zeros afterwards.

@@ -1,4 +1,5 @@
 // How `improve` begins: groups, slots and their index in a work slice of zeros.
+use crate::layout::SORT_WORDS;
 use geometry::bounds::Options;
 use mesh::group::group_in;
 use mesh::star::Index;
@@ -24,7 +25,7 @@ pub(crate) fn begin(work: &mut [u32], x: Index, o: Options, parameters: &[f64], 
     ensures { λ _. ⌜ ((m : Mesh) → m .parameters ≡ pointsOf (x .vertices) (now (parameters .entry)) → Stands o m x (x .room) (now (work .exit)) (record { elements = tets (x .room) (now (elements .entry)); replaced = [] })) ⌝ }
 {
     let nv = x.vertices as usize;
-    let e = 14 * nv;
+    let e = SORT_WORDS * nv;
     let k = x.slots;
     group_in(parameters, nv, o, &mut work[0..e]);
     copy_into(elements, 0, work, k, 4 * (x.room as usize));

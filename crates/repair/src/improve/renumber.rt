@@ -31,7 +31,10 @@ ghost use Rattle.mesh.specs.Words.{wordAt, pointIn};
 ghost use Rattle.mesh.specs.inside.Manifold.{KeptBelow};
 ghost use Rattle.repair.specs.declared.answer.Answer.{Answer};
 ghost use Rattle.repair.specs.Step.{State, sizesAfter, floatsOf};
-ghost use Rattle.repair.specs.inside.improve.Renumber.{improveEnd, EndArea, EndBuffers, numberedAt, metAt, Unmet, Numbered, Renumbered, testedOutcome, testedPart, Ended, listed, movedPoints, movedMasks, MeshRoom, movedIn};
+ghost use Rattle.repair.specs.inside.improve.Renumber.{improveEnd, EndArea, EndBuffers, usedAt, numberedAt, metAt, Unmet, Numbered, Renumbered, testedOutcome, testedPart, Ended, listed, movedPoints, movedMasks, MeshRoom, movedIn};
+
+// How many words an element takes before `used`: its own, and room for its faces.
+const END_WORDS: usize = 112;
 
 // Writes the new number of the vertex at p, the next one where it is not met yet, and gives how many are met then.
 fn number_word(area: &mut [u32], p: usize, marks: usize, used: usize, count: u32) -> u32
@@ -53,11 +56,11 @@ fn number_word(area: &mut [u32], p: usize, marks: usize, used: usize, count: u32
 
 // Writes the new numbers of the vertices of the k elements at the front, and gives how many vertices they are.
 fn number_words(area: &mut [u32], k: usize, nv: usize) -> u32
-    requires { ⌜ Unmet (4 * k) nv (112 * k + nv) (now area) ⌝ }
-    ensures { λ r. ⌜ Numbered (4 * k) (112 * k + nv) (now (area .entry)) (now (area .exit)) r ⌝ }
+    requires { ⌜ Unmet (4 * k) nv (usedAt k nv) (now area) ⌝ }
+    ensures { λ r. ⌜ Numbered (4 * k) (usedAt k nv) (now (area .entry)) (now (area .exit)) r ⌝ }
 {
     let m = 4 * k;
-    let used = 112 * k + nv;
+    let used = END_WORDS * k + nv;
     let mut count: u32 = 0;
     let mut p = 0;
     while p < m {
@@ -98,11 +101,11 @@ fn test_surface(area: &mut [u32], m: usize, e: usize, found: Outcome) -> Outcome
 
 // The boundary of the k elements at the front, its triples behind them, or the number of the refusal: 16, 17 or 22.
 fn end_surface(area: &mut [u32], k: usize, nv: usize) -> Outcome
-    requires { ⌜ (k ≤ 16384) × (nv ≤ 4096) × (112 * k + nv ≤ length (now area)) × (every (λ v. ltb v nv) (allVertices (tets k (now area))) ≡ true) ⌝ }
+    requires { ⌜ (k ≤ 16384) × (nv ≤ 4096) × (usedAt k nv ≤ length (now area)) × (every (λ v. ltb v nv) (allVertices (tets k (now area))) ≡ true) ⌝ }
     ensures { λ r. ⌜ Ended k nv (now (area .entry)) (now (area .exit)) r ⌝ }
 {
     let m = 4 * k;
-    let e = 112 * k + nv;
+    let e = END_WORDS * k + nv;
     let found = boundary_in(&mut area[0..e], k);
     test_surface(area, m, e, found)
 }
@@ -176,7 +179,7 @@ fn commit(
     let k = sizes.elements;
     let m = 4 * k;
     let w = 3 * sizes.triples;
-    let used = 112 * k + nv;
+    let used = END_WORDS * k + nv;
     let to = used + nv;
     move_points(parameters, floats, area, used, n);
     move_points(points, floats, area, used, n);
