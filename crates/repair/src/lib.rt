@@ -6,4 +6,5 @@ pub mod improve;
 mod layout;
 pub mod project;
 mod quality;
+mod slots;
 pub mod smooth;

@@ -1,42 +1,18 @@
-// Slots of `flip` read, emptied, and added behind the others.
-use crate::quality::element_from;
+// Slots of `flip` emptied, and added behind the others.
+use crate::slots::put_slot;
 use mesh::element::Tet;
 use mesh::star::GONE;
 use mesh::star::Index;
 use mesh::star::append;
-use mesh::words::put_word;
 ghost use mathlib.Core.Path.{_≡_};
 ghost use mathlib.Core.Bool.{true};
 ghost use mathlib.Core.List.{[], _∷_, _++_};
 ghost use mathlib.Core.Option.{none, some};
-ghost use Prim.Native.Nat.{ℕ, _+_, _*_, _≤_, _<_};
+ghost use Prim.Native.Nat.{ℕ, _+_, _≤_, _<_};
 ghost use lib.ListN.{set};
 ghost use Rattle.mesh.specs.Intake.{wellNumbered};
 ghost use Rattle.repair.specs.Flip.{State};
-ghost use Rattle.repair.specs.inside.improve.Collapse.{slotAt, putSlot};
 ghost use Rattle.repair.specs.inside.flip.Layout.{SlotsStand, Kept};
-
-// The words of the slot e: an element, or GONE four times.
-pub(crate) fn slot(work: &[u32], x: Index, e: u32) -> Tet
-    requires { ⌜ x .slots ≤ 1048576 ⌝ }
-    ensures { λ r. ⌜ r ≡ slotAt x (now (work .entry)) e ⌝ }
-{
-    let k = e as usize;
-    element_from(work, x.slots + 4 * k)
-}
-
-// Writes the element t to the slot e.
-fn put_slot(work: &mut [u32], x: Index, e: u32, t: Tet)
-    requires { ⌜ x .slots ≤ 1048576 ⌝ }
-    ensures { λ _. ⌜ now (work .exit) ≡ putSlot (now (work .entry)) (x .slots + 4 * e) t ⌝ }
-{
-    let k = e as usize;
-    let p = x.slots + 4 * k;
-    put_word(work, p, t.a);
-    put_word(work, p + 1, t.b);
-    put_word(work, p + 2, t.c);
-    put_word(work, p + 3, t.d);
-}
 
 // Empties the slot e.
 pub(crate) fn empty_slot(work: &mut [u32], x: Index, e: u32)

@@ -6,7 +6,7 @@ use crate::flip::find::list_both;
 use crate::flip::layout::triple_from;
 use crate::flip::orient::Trio;
 use crate::flip::replace::replace;
-use crate::flip::slots::slot;
+use crate::slots::slot;
 use mesh::element::Pair;
 use mesh::element::Tet;
 use mesh::element::Triple;

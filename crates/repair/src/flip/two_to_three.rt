@@ -4,7 +4,7 @@ use crate::flip::counts::Tried;
 use crate::flip::find::any_live;
 use crate::flip::orient::Trio;
 use crate::flip::replace::replace;
-use crate::flip::slots::slot;
+use crate::slots::slot;
 use mesh::element::Tet;
 use mesh::element::Triple;
 use mesh::element::is_corner;

@@ -2,13 +2,14 @@
 // index, slots with both are gone, and a is flagged as replaced.
 use crate::layout::flags_at;
 use crate::layout::pairs_at;
+use crate::slots::put_slot;
+use crate::slots::slot;
 use mesh::element::Tet;
 use mesh::element::has_vertex;
 use mesh::star::GONE;
 use mesh::star::Index;
 use mesh::star::join;
 use mesh::star::star;
-use mesh::vertex::tet_at;
 use mesh::words::put_word;
 use mesh::words::word;
 ghost use mathlib.Core.Path.{_≡_};
@@ -50,18 +51,11 @@ fn slot_after(t: Tet, a: u32, b: u32) -> Tet
 
 // In the slot e a goes into b.
 fn replace_in_slot(work: &mut [u32], x: Index, e: u32, a: u32, b: u32)
-    requires { ⌜ (x .slots ≤ 40960) × (x .slots ≤ length (now work)) ⌝ }
+    requires { ⌜ x .slots ≤ 40960 ⌝ }
     ensures { λ _. ⌜ now (work .exit) ≡ slotReplaced x a b e (now (work .entry)) ⌝ }
 {
-    let i = x.slots;
-    let k = e as usize;
-    let t = tet_at(&work[i..], k);
-    let u = slot_after(t, a, b);
-    let p = i + 4 * k;
-    put_word(work, p, u.a);
-    put_word(work, p + 1, u.b);
-    put_word(work, p + 2, u.c);
-    put_word(work, p + 3, u.d);
+    let t = slot(work, x, e);
+    put_slot(work, x, e, slot_after(t, a, b));
 }
 
 // In the slots that the k words from p on name a goes into b.

@@ -4,10 +4,9 @@ use mathlib.Core.Logic.{inl, inr}
 use mathlib.Core.List.{List, [], _∷_, _++_, map}
 use Prim.Native.Nat.{ℕ, suc, _+_, _-_, _*_, _≤_, _<_}
 use native.Mathlib.Omega.{arith}
-use lib.ListN.{length, drop, set}
+use lib.ListN.{length, drop}
 use lib.Seq.{getD-drop, drop-length}
 use Rattle.mesh.specs.declared.element.Pair.{Pair}
-use Rattle.mesh.specs.declared.element.Tet.{Tet}
 use Rattle.mesh.specs.declared.star.Index.{Index}
 use Rattle.mesh.specs.Words.{wordAt}
 use Rattle.mesh.specs.Element.{pair}
@@ -17,24 +16,10 @@ use Rattle.mesh.proofs.Laws.Star.Distinct.{length-distinct}
 use Rattle.mesh.proofs.Laws.Star.Answers.{about-short}
 use Rattle.repair.specs.Improve.{image, collapsed}
 use Rattle.repair.specs.inside.Layout.{Room, Pairs, Stands, liveIn, slotsIn, pairsAt, pairsIn}
-use Rattle.repair.specs.inside.improve.Collapse.{slotAfter, slotAt, putSlot, slotReplaced, slotsReplaced, ListsKept, Replaces, Goes, AllGo}
+use Rattle.repair.specs.inside.improve.Collapse.{slotReplaced, slotsReplaced, ListsKept, Replaces, Goes, AllGo}
 use Rattle.repair.proofs.Laws.Replace.Slots.{live-same}
 use Rattle.repair.proofs.Laws.Layout.{room-laid}
 use Rattle.repair.proofs.Laws.Replace.Pairs.{collapsed-more, pair-here, pairs-drop, pairs-at, length-pairs}
-
--- ---- one slot
-
--- four words, read, replaced and written
-pub slot-is : (x : Index) (a b e : ℕ) (w : List ℕ) (t u : Tet) (w₁ w₂ w₃ w₄ : List ℕ) → t ≡ slotAt x w e → u ≡ slotAfter a b t
-    → w₁ ≡ set w (x .slots + 4 * e) (u .a) → w₂ ≡ set w₁ (x .slots + 4 * e + 1) (u .b) → w₃ ≡ set w₂ (x .slots + 4 * e + 2) (u .c)
-    → w₄ ≡ set w₃ (x .slots + 4 * e + 3) (u .d) → w₄ ≡ slotReplaced x a b e w
-unfolding slotReplaced putSlot
-slot-is x a b e w t u w₁ w₂ w₃ w₄ et eu e₁ e₂ e₃ e₄ =
-    e₄ ∙ ap (λ (l : List ℕ). set l (p + 3) (u .d)) (e₃ ∙ ap (λ (l : List ℕ). set l (p + 2) (u .c)) (e₂ ∙ ap (λ (l : List ℕ). set l (p + 1) (u .b)) e₁))
-    ∙ ap (putSlot w p) (eu ∙ ap (slotAfter a b) et)
-  where
-    p : ℕ
-    p = x .slots + 4 * e
 
 -- ---- the slots that a list names
 

@@ -1,11 +1,11 @@
--- `repair::flip::slots::put_slot` meets its contract. Assumes nothing.
+-- `repair::slots::put_slot` meets its contract. Assumes nothing.
 use borrow.Author.Needs.{needs}
 use mathlib.Core.Path.{ap, _∙_}
 use mathlib.Core.List.{List}
 use Prim.Native.Nat.{ℕ, _+_, _*_}
 use lib.ListN.{set}
-use Rattle.repair.proofs.flip.slots.put_slot.Statement.{statement}
-use Rattle.repair.proofs.flip.slots.put_slot.Tie as tie
+use Rattle.repair.proofs.slots.put_slot.Statement.{statement}
+use Rattle.repair.proofs.slots.put_slot.Tie as tie
 
 mul-p : tie.Need-mul-p
 mul-p c = search needs

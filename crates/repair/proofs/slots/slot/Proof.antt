@@ -1,8 +1,8 @@
--- `repair::flip::slots::slot` meets its contract. Assumes nothing.
+-- `repair::slots::slot` meets its contract. Assumes nothing.
 use borrow.Author.Needs.{needs}
 use Rattle.repair.proofs.Laws.Flip.Held.{slot-is}
-use Rattle.repair.proofs.flip.slots.slot.Statement.{statement}
-use Rattle.repair.proofs.flip.slots.slot.Tie as tie
+use Rattle.repair.proofs.slots.slot.Statement.{statement}
+use Rattle.repair.proofs.slots.slot.Tie as tie
 
 mul-element-from : tie.Need-mul-element-from
 mul-element-from c = search needs
