@@ -30,13 +30,21 @@ ghost use mathlib.Core.Option.{none};
 ghost use Prim.Native.Nat.{ℕ, _+_, _*_, _≤_};
 ghost use lib.ListN.{length};
 ghost use Rattle.mesh.specs.Words.{zeroWords, zeroFloats};
+ghost use Rattle.mesh.specs.Element.{tets};
 ghost use Rattle.mesh.specs.Measure.{measure};
 ghost use Rattle.repair.specs.declared.answer.Answer.{Answer};
 ghost use Rattle.repair.specs.Mesh.{Mesh};
 ghost use Rattle.repair.specs.Improve as def;
 ghost use Rattle.repair.specs.inside.Layout.{Stands, Reads, Ready};
-ghost use Rattle.repair.specs.Step.{State, Pass, held, callOf, numberOf, valuesOf, inNumbers, sizesAfter, finish, meshOf, step};
-ghost use Rattle.repair.specs.inside.improve.Fitting.{Fitting};
+ghost use Rattle.repair.specs.Step.{State, Pass, held, callOf, numberOf, valuesOf, inNumbers, sizesAfter, step};
+ghost use Rattle.repair.specs.inside.improve.Fitting.{Fitting, Collapsed, afterRounds};
+
+// What the rounds leave: how many vertices are replaced, how many elements there are, and where in the work slice they stand.
+struct Rest {
+    replaced: usize,
+    elements: usize,
+    area: usize,
+}
 
 // At most o.passes rounds, ended by one that collapses nothing. Gives how many vertices were replaced.
 fn rounds(
@@ -67,42 +75,29 @@ fn rounds(
     replaced
 }
 
-// The pass on a mesh that passed intake.
-fn improve_all(
+// Lays the mesh out and makes the rounds. The elements that are left stand at the front of the area.
+fn collapse_edges(
     sizes: Sizes,
     o: Options,
-    parameters: &mut [f64],
-    points: &mut [f64],
-    masks: &mut [u32],
-    elements: &mut [u32],
-    surface: &mut [u32],
+    parameters: &[f64],
+    points: &[f64],
+    masks: &[u32],
+    elements: &[u32],
     work: &mut [u32],
-    floats: &mut [f64],
-) -> Answer
-    requires { ⌜ Fitting o (held sizes (now parameters) (now points) (now masks) (now elements) (now surface)) (now work) (length (now floats)) ⌝ }
-    ensures { λ r. ⌜ _≡_ {A = Answer × State}
-        (r, held (sizesAfter r sizes) (now (parameters .exit)) (now (points .exit)) (now (masks .exit)) (now (elements .exit)) (now (surface .exit)))
-        (finish (held sizes (now (parameters .entry)) (now (points .entry)) (now (masks .entry)) (now (elements .entry)) (now (surface .entry)))
-        (def.improve o (meshOf (held sizes (now (parameters .entry)) (now (points .entry)) (now (masks .entry)) (now (elements .entry)) (now (surface .entry)))))) ⌝ }
+) -> Rest
+    requires { ⌜ Fitting o sizes (now elements) (now work) ⌝ }
+    ensures { λ r. ⌜ ((m : Mesh) → Reads m (sizes .vertices) (now (parameters .entry)) (now (points .entry)) (now (masks .entry))
+        → Collapsed sizes (afterRounds o m (tets (sizes .elements) (now (elements .entry)))) (now (work .exit)) r) ⌝ }
 {
-    let n = sizes.elements as u32;
-    let x = layout(sizes.vertices as u32, n);
+    let x = layout(sizes.vertices as u32, sizes.elements as u32);
     begin(work, x, o, parameters, elements);
     let count = rounds(work, x, o, masks, parameters, points);
     let k = live_elements(work, x, sizes.elements);
-    let a = x.area;
-    finish_improve(
-        sizes,
-        count,
-        k,
-        parameters,
-        points,
-        masks,
-        elements,
-        surface,
-        &mut work[a..],
-        floats,
-    )
+    Rest {
+        replaced: count,
+        elements: k,
+        area: x.area,
+    }
 }
 
 // `improve` on whole buffers: intake, then the pass. Both work slices may hold anything before, and are all zeros afterwards.
@@ -138,15 +133,26 @@ pub fn improve(
     if number != 0 {
         return Answer::Refused(number);
     }
-    let answer = improve_all(
+    let rest = collapse_edges(
         s.sizes,
         s.options,
         parameters,
         points,
         masks,
         elements,
-        surface,
         work,
+    );
+    let a = rest.area;
+    let answer = finish_improve(
+        s.sizes,
+        rest.replaced,
+        rest.elements,
+        parameters,
+        points,
+        masks,
+        elements,
+        surface,
+        &mut work[a..],
         floats,
     );
     clear(work);

@@ -15,6 +15,7 @@ use Rattle.repair.specs.declared.answer.Answer.the-variants.{Refused}
 use Rattle.repair.specs.Improve as def
 use Rattle.repair.specs.Step.{State, Call, Pass, meshOf, given, lengthsOf, resultOf, finish, step}
 use Rattle.repair.specs.inside.improve.Fitting.{Fitting}
+use Rattle.repair.specs.inside.improve.Renumber.{EndBuffers}
 use Rattle.repair.proofs.Laws.Improve.Intake.{Passed, intake-passed}
 use Rattle.repair.proofs.Laws.Lengths.{LongEnough, long-enough}
 
@@ -52,10 +53,10 @@ module _ (c : Call) (s : State) (work : List ℕ) (floats : List Float) (words :
   unfolding givenOf
   lengths number e f = long-enough (s .sizes) (lengthsOf c s) (passed number e f .few) (rw (words, many) (passed number e f .long))
 
-  -- and the buffers are as `improve` asks
-  pub fitting : (number : ℕ) → number ≡ intake seen → number ≡ 0 → (w : List ℕ) → w ≡ zeroWords (length work) → {j : ℕ} → j ≡ length floats → Fitting (c .options) s w j
+  -- and all is as the rounds of `improve` ask
+  pub fitting : (number : ℕ) → number ≡ intake seen → number ≡ 0 → (w : List ℕ) → w ≡ zeroWords (length work) → Fitting (c .options) (s .sizes) (s .elements) w
   unfolding givenOf
-  fitting number e f w z l =
+  fitting number e f w z =
       let p = passed number e f in
       let h = lengths number e f in
       let o = c .options in
@@ -68,18 +69,25 @@ module _ (c : Call) (s : State) (work : List ℕ) (floats : List Float) (words :
         vertices = h .vertices;
         elements = h .elements;
         passes = leb-true (o .passes) 16 (and-fst (leb (o .passes) 16) (leb (o .periodic) 7) b₄);
-        buffers = record {
-          few = (let u : s .sizes .elements ≤ s .sizes .elements = omega arith in u);
-          parameters = h .parameters;
-          points = h .points;
-          masks = h .masks;
-          elements = h .slots;
-          surface = h .surface;
-          floats = omega (arith, h .floats, many, l);
-        };
+        slots = omega (arith, h .slots);
+        numbered = p .numbered;
         long = omega (arith, h .words, long, words);
         zeros = z ∙ ap zeroWords (sym long);
-        numbered = p .numbered;
+      }
+
+  -- and the buffers are long enough for its end
+  pub end-buffers : (number : ℕ) → number ≡ intake seen → number ≡ 0 → (k : ℕ) → k ≤ s .sizes .elements → {j : ℕ} → j ≡ length floats
+      → EndBuffers (s .sizes) k (length (s .parameters)) (length (s .points)) (length (s .masks)) (length (s .elements)) (length (s .surface)) j
+  end-buffers number e f k few l =
+      let h = lengths number e f in
+      record {
+        few = few;
+        parameters = h .parameters;
+        points = h .points;
+        masks = h .masks;
+        elements = h .slots;
+        surface = h .surface;
+        floats = omega (arith, h .floats, many, l);
       }
 
 -- the pass on values of a call of `improve`

@@ -6,10 +6,12 @@ use Prim.Native.Nat.{ℕ, _+_, _-_, _*_, _≤_}
 use native.Mathlib.Nat.{le-of-eq}
 use native.Mathlib.Omega.{arith}
 use lib.Dec.{eqb}
+use lib.Ieee.{Float}
 use lib.ListN.{length, take, drop, length-drop}
 use lib.Seq.{take-all}
 use Rattle.geometry.specs.declared.bounds.Options.{Options}
 use Rattle.mesh.specs.declared.star.Index.{Index}
+use Rattle.mesh.specs.declared.intake.Sizes.{Sizes}
 use Rattle.mesh.specs.declared.element.Tet.{Tet}
 use Rattle.mesh.specs.Words.{pointsOf}
 use Rattle.mesh.specs.Complex.{keep}
@@ -27,83 +29,73 @@ use Rattle.mesh.proofs.Laws.About.Calls.{Copied, live-count, live-copied}
 use borrow.Author.Tests.{eq-eqb, eqb-true}
 use Rattle.repair.specs.Improve as def
 use Rattle.repair.specs.inside.Layout.{Room, Stands, Reads, Ready, slotsIn, liveIn, slotOk}
-use Rattle.repair.specs.inside.improve.Renumber.{EndArea, EndBuffers, improveEnd}
+use Rattle.repair.specs.inside.improve.Renumber.{EndArea, improveEnd}
+use Rattle.repair.specs.inside.improve.Fitting.{Collapsed, beforeRounds, afterRounds}
+use Rattle.repair.specs.declared.improve.Rest.{Rest}
+use Rattle.repair.specs.Mesh.{Mesh}
 use Rattle.repair.specs.Step.{State, meshOf, finish}
 use Rattle.repair.proofs.Laws.Layout.{room-laid}
 use Rattle.mesh.proofs.Laws.Intake.Reads.{length-tets}
 
-module _ (o : Options) (s : State) (x : Index) (many : x .vertices ≡ s .sizes .vertices) where
-  abbrev n : ℕ
-  n = s .sizes .elements
+-- some mesh with the slices' vertices
+abbrev pub meshIn : ℕ → List Float → List Float → List ℕ → Mesh
+meshIn nv ps qs ms = record { parameters = pointsOf nv ps; points = pointsOf nv qs; masks = take nv ms; elements = []; surface = [] }
 
-  -- the vertices of the mesh are those of the buffers
-  pub reads : Reads (meshOf s) (x .vertices) (s .parameters) (s .points) (s .masks)
-  unfolding meshOf
-  reads = record {
-    parameters = ap (λ u. pointsOf u (s .parameters)) (sym many);
-    points = ap (λ u. pointsOf u (s .points)) (sym many);
-    masks = ap (λ u. take u (s .masks)) (sym many);
-  }
+pub begun-ready : (o : Options) (x : Index) (w : List ℕ) (es : List ℕ) (ps qs : List Float) (ms : List ℕ)
+    → ((m : Mesh) → m .parameters ≡ pointsOf (x .vertices) ps → Stands o m x (x .room) w (beforeRounds (tets (x .room) es))) → Ready o x (x .room) w ps qs ms
+begun-ready o x w es ps qs ms h =
+    let m = meshIn (x .vertices) ps qs ms in
+    (m, beforeRounds (tets (x .room) es), record { parameters = refl; points = refl; masks = refl }, h m refl)
 
-  -- where `improve` begins, with k elements and with all
-  abbrev startOf : ℕ → def.State
-  startOf k = record { elements = tets k (s .elements); replaced = [] }
+module _ (z : Sizes) (es : List ℕ) (x : Index) (many : x .vertices ≡ z .vertices) (all : x .room ≡ z .elements) where
+  -- what `begin` requires
+  pub begins : (m : ℕ) → Room x (z .elements) m → 4 * z .elements ≤ length es → every (wellNumbered (z .vertices)) (tets (z .elements) es) ≡ true
+      → Room x (x .room) m × (4 * x .room ≤ length es) × (every (wellNumbered (x .vertices)) (tets (x .room) es) ≡ true)
+  begins m r f h = (
+    subst (λ u. Room x u m) (sym all) r,
+    subst (λ u. 4 * u ≤ length es) (sym all) f,
+    subst (λ u. every (wellNumbered (x .vertices)) (tets u es) ≡ true) (sym all) (subst (λ u. every (wellNumbered u) (tets (z .elements) es) ≡ true) (sym many) h),
+  )
 
-  abbrev pub start : def.State
-  start = startOf n
+  -- what `rounds` gives for the index's room it gives for the mesh's elements
+  module _ (o : Options) (m : Mesh) (ps qs : List Float) (ms : List ℕ) (v : Reads m (z .vertices) ps qs ms) where
+    pub rounded : (w₀ w : List ℕ) (count : ℕ)
+        → ((m : Mesh) → m .parameters ≡ pointsOf (x .vertices) ps → Stands o m x (x .room) w₀ (beforeRounds (tets (x .room) es)))
+        → ((m : Mesh) (s : def.State) → Reads m (x .vertices) ps qs ms → Stands o m x (x .room) w₀ s
+            → Stands o m x (x .room) w (def.rounds o m (measure (m .points)) (o .passes) s) × (length (def.rounds o m (measure (m .points)) (o .passes) s .replaced) ≡ count + length (s .replaced)))
+        → Stands o m x (z .elements) w (afterRounds o m (tets (z .elements) es)) × (length (afterRounds o m (tets (z .elements) es) .replaced) ≡ count + 0)
+    rounded w₀ w count f g =
+        let r = subst (λ u. Reads m u ps qs ms) (sym many) v in
+        subst (λ u. Stands o m x u w (afterRounds o m (tets u es)) × (length (afterRounds o m (tets u es) .replaced) ≡ count + 0)) all (g m (beforeRounds (tets (x .room) es)) r (f m (r .parameters)))
 
-  pub begun-ready : (w : List ℕ) → Stands o (meshOf s) x (x .room) w (startOf (x .room)) → Ready o x (x .room) w (s .parameters) (s .points) (s .masks)
-  begun-ready w z = (meshOf s, startOf (x .room), reads, z)
+  module _ (o : Options) (m : Mesh) (s : def.State) (w w′ : List ℕ) (st : Stands o m x (z .elements) w s) (k : ℕ) (ek : k ≡ length (about.liveList x (z .elements) w)) (e : w′ ≡ about.liveIn x (z .elements) w) where
+    abbrev n : ℕ
+    n = z .elements
 
-  -- where it ends
-  abbrev endOf : ℕ → def.State
-  endOf k = def.rounds o (meshOf s) (measure (meshOf s .points)) (o .passes) (startOf k)
-
-  abbrev pub last : def.State
-  last = endOf n
-
-  module _ (w : List ℕ) (fits : Room x n (length w)) where
-    -- what `begin` requires
-    pub begins : 4 * n ≤ length (s .elements) → every (wellNumbered (s .sizes .vertices)) (tets n (s .elements)) ≡ true
-        → Room x (x .room) (length w) × (4 * x .room ≤ length (s .elements)) × (every (wellNumbered (x .vertices)) (tets (x .room) (s .elements)) ≡ true)
-    begins f h = (
-      subst (λ u. Room x u (length w)) (sym (fits .room)) fits,
-      subst (λ u. 4 * u ≤ length (s .elements)) (sym (fits .room)) f,
-      subst (λ u. every (wellNumbered (x .vertices)) (tets u (s .elements)) ≡ true) (sym (fits .room))
-          (subst (λ u. every (wellNumbered u) (tets n (s .elements)) ≡ true) (sym many) h),
-    )
-
-    -- what `rounds` gives for the index's room it gives for the mesh's elements
-    pub rounded : (w′ : List ℕ) (count : ℕ)
-        → Stands o (meshOf s) x (x .room) w′ (endOf (x .room)) × (length (endOf (x .room) .replaced) ≡ count + length (startOf (x .room) .replaced))
-        → Stands o (meshOf s) x n w′ last × (length (last .replaced) ≡ count + length (start .replaced))
-    rounded w′ count = subst (λ u. Stands o (meshOf s) x u w′ (endOf u) × (length (endOf u .replaced) ≡ count + length (startOf u .replaced))) (fits .room)
-
-  module _ (w w′ : List ℕ) (z : Stands o (meshOf s) x n w last) (k : ℕ) (ek : k ≡ length (about.liveList x n w)) (e : w′ ≡ about.liveIn x n w) where
     r : Room x n (length w)
-    r = z .room
+    r = st .room
 
     fit : x .area + 4 * n ≤ length w
     fit = let a = r .few in let b = r .slots in let c = r .nexts in let d = r .heads in let f = r .lengths in let g = r .area in let h = r .long in omega arith
 
     -- the live elements are those of the state
-    live-are : keep (λ t. not (gone t)) (slotsIn x n w) ≡ last .elements
+    live-are : keep (λ t. not (gone t)) (slotsIn x n w) ≡ s .elements
     unfolding liveIn
-    live-are = sym (z .elements)
+    live-are = sym (st .elements)
 
-    copied : Copied w w′ (x .area) (last .elements)
+    copied : Copied w w′ (x .area) (s .elements)
     copied =
-        subst (λ u. Copied w u (x .area) (last .elements)) (sym e)
+        subst (λ u. Copied w u (x .area) (s .elements)) (sym e)
         (subst (Copied w (about.liveIn x n w) (x .area)) live-are (live-copied x w n (room-laid r) (let a = r .room in omega arith) fit))
 
-    pub count-is : k ≡ length (last .elements)
+    count-is : k ≡ length (s .elements)
     count-is = ek ∙ live-count x w n (room-laid r) (let a = r .room in omega arith) fit ∙ ap length live-are
 
     -- the area holds them
-    pub area-elements : tets k (drop (x .area) w′) ≡ last .elements
+    area-elements : tets k (drop (x .area) w′) ≡ s .elements
     area-elements = ap (λ u. tets u (drop (x .area) w′)) count-is ∙ copied .elements
 
-    pub area-inside : x .area ≤ length w′
+    area-inside : x .area ≤ length w′
     area-inside = let a = copied .long in let b = fit in omega arith
 
     few-live : k ≤ n
@@ -125,48 +117,48 @@ module _ (o : Options) (s : State) (x : Index) (many : x .vertices ≡ s .sizes 
           ]
         ]
 
-    pub end-area : EndArea k (s .sizes .vertices) (drop (x .area) w′)
+    end-area : EndArea k (z .vertices) (drop (x .area) w′)
     end-area = record {
       elements = let a = few-live in let b = r .elements in omega arith;
       vertices = let a = r .few in omega arith;
       long = let a = r .few in let b = r .slots in let c = r .nexts in let d = r .heads in let f = r .lengths in let g = r .area in let h = r .long in
           let i = copied .long in let j = length-drop (x .area) w′ in let l = few-live in omega arith;
       numbered =
-          ap (every (wellNumbered (s .sizes .vertices))) (area-elements ∙ sym live-are)
-          ∙ subst (λ u. every (wellNumbered u) (keep (λ t. not (gone t)) (slotsIn x n w)) ≡ true) many (all-numbered (x .vertices) (slotsIn x n w) (z .proper));
+          ap (every (wellNumbered (z .vertices))) (area-elements ∙ sym live-are)
+          ∙ subst (λ u. every (wellNumbered u) (keep (λ t. not (gone t)) (slotsIn x n w)) ≡ true) many (all-numbered (x .vertices) (slotsIn x n w) (st .proper));
     }
 
-    pub end-buffers : (p q m e₁ t f : ℕ) → EndBuffers (s .sizes) (s .sizes .elements) p q m e₁ t f → EndBuffers (s .sizes) k p q m e₁ t f
-    end-buffers p q m e₁ t f b = record {
+    -- what is left
+    pub collapsed : (count : ℕ) → length (s .replaced) ≡ count + 0 → Collapsed z s w′ (record { replaced = count; elements = k; area = x .area })
+    collapsed count h = record {
+      replaced = omega arith;
+      elements = area-elements;
       few = few-live;
-      parameters = b .parameters;
-      points = b .points;
-      masks = b .masks;
-      elements = b .elements;
-      surface = b .surface;
-      floats = b .floats;
+      low = let a = r .few in let b = r .slots in let c = r .nexts in let d = r .heads in let f = r .lengths in let g = r .area in let h = r .elements in omega arith;
+      inside = area-inside;
+      ready = end-area;
     }
+
+-- ---- the end
+
+module _ (s : State) where
+  -- the vertices of the mesh are those of the buffers
+  pub reads : Reads (meshOf s) (s .sizes .vertices) (s .parameters) (s .points) (s .masks)
+  unfolding meshOf
+  reads = record { parameters = refl; points = refl; masks = refl }
+
+  module _ (o : Options) (w : List ℕ) (rest : Rest) (h : Collapsed (s .sizes) (afterRounds o (meshOf s) (tets (s .sizes .elements) (s .elements))) w rest) where
+    -- all words from the area on, as they are lent
+    abbrev part : List ℕ
+    part = take (length w - rest .area) (drop (rest .area) w)
+
+    part-is : part ≡ drop (rest .area) w
+    part-is = take-all (length w - rest .area) (drop (rest .area) w) (le-of-eq (length-drop (rest .area) w))
+
+    pub part-area : EndArea (rest .elements) (s .sizes .vertices) part
+    part-area = subst (EndArea (rest .elements) (s .sizes .vertices)) (sym part-is) (h .ready)
 
     -- the answer and the buffers are the definition's
-    pub ended : (count : ℕ) → length (last .replaced) ≡ count + length (start .replaced) → improveEnd count (tets k (drop (x .area) w′)) s ≡ finish s (def.improve o (meshOf s))
+    pub part-ended : improveEnd (rest .replaced) (tets (rest .elements) part) s ≡ finish s (def.improve o (meshOf s))
     unfolding improveEnd def.improve def.improveBy meshOf
-    ended count h =
-        let c : count ≡ length (last .replaced) = omega arith in
-        ap₂ (λ u v. improveEnd u v s) c area-elements
-
-    -- the area begins at a small number
-    pub area-low : x .area ≤ 1048576
-    area-low = let a = r .few in let b = r .slots in let c = r .nexts in let d = r .heads in let f = r .lengths in let g = r .area in let h = r .elements in omega arith
-
-    -- all words from there on, as they are lent
-    abbrev pub part : List ℕ
-    part = take (length w′ - x .area) (drop (x .area) w′)
-
-    part-is : part ≡ drop (x .area) w′
-    part-is = take-all (length w′ - x .area) (drop (x .area) w′) (le-of-eq (length-drop (x .area) w′))
-
-    pub part-area : EndArea k (s .sizes .vertices) part
-    part-area = subst (EndArea k (s .sizes .vertices)) (sym part-is) end-area
-
-    pub part-ended : (count : ℕ) → length (last .replaced) ≡ count + length (start .replaced) → improveEnd count (tets k part) s ≡ finish s (def.improve o (meshOf s))
-    part-ended count h = ap (λ u. improveEnd count (tets k u) s) part-is ∙ ended count h
+    part-ended = ap₂ (λ u v. improveEnd u v s) (h .replaced) (ap (tets (rest .elements)) part-is ∙ h .elements)

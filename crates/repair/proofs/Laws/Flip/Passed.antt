@@ -8,7 +8,6 @@ use Prim.Native.Nat.{ℕ, _*_, _≤_}
 use lib.Dec.{eqb}
 use lib.Ieee.{Float}
 use lib.ListN.{length, take}
-use Rattle.geometry.specs.declared.bounds.Options.{Options}
 use Rattle.mesh.specs.declared.element.Triple.{Triple}
 use Rattle.mesh.specs.declared.element.Tet.{Tet}
 use Rattle.mesh.specs.Words.{zeroWords, pointsOf}
@@ -21,11 +20,11 @@ use Rattle.repair.specs.declared.answer.Answer.{Answer}
 use Rattle.repair.specs.declared.answer.Answer.the-variants.{Done}
 use Rattle.repair.specs.Mesh.{Mesh, made, refused}
 use Rattle.repair.specs.Flip as def
-use Rattle.repair.specs.Step.{State, Call, Pass, sizesAfter, meshOf, floatsOf, over, committed, resultOf, finish}
-use Rattle.repair.specs.inside.improve.Fitting.{Fitting}
+use Rattle.repair.specs.Step.{State, Call, Pass, sizesAfter, meshOf, lengthsOf, floatsOf, over, committed, resultOf, finish}
 use Rattle.repair.specs.inside.flip.Finish.{flipEnd}
 use Rattle.repair.specs.inside.flip.Fitting.{FlipFitting, flipLast, flipWhole}
 use Rattle.repair.proofs.Laws.Entry.{seen, lengths, fitting}
+use Rattle.repair.proofs.Laws.Lengths.{LongEnough}
 use Rattle.repair.proofs.Laws.Site.Pass.{floats-front, over-is}
 
 -- ---- what intake says
@@ -34,13 +33,14 @@ module _ (c : Call) (s : State) (work : List ℕ) (floats : List Float) (words :
   -- the buffers are as `flip` asks
   pub flip-fitting : (w : List ℕ) → w ≡ zeroWords (length work) → FlipFitting (s .sizes) (s .elements) (s .surface) w
   flip-fitting w z =
-      let f = fitting c s work floats words many number e passes w z refl in
+      let f = fitting c s work floats words many number e passes w z in
+      let h = lengths c s work floats words many number e passes in
       record {
         vertices = f .vertices;
         elements = f .elements;
-        triples = lengths c s work floats words many number e passes .triples;
-        slots = f .buffers .elements;
-        surface = f .buffers .surface;
+        triples = h .triples;
+        slots = h .slots;
+        surface = h .surface;
         long = f .long;
         numbered = f .numbered;
       }
@@ -56,7 +56,7 @@ flip-result c s e = rw e refl
 abbrev pub placed : State → Answer → List ℕ → List ℕ → Answer × State
 placed s a es ss = (a, record { parameters = s .parameters; points = s .points; masks = s .masks; elements = es; surface = ss; sizes = sizesAfter a (s .sizes) })
 
-module _ (o : Options) (s : State) (work : List ℕ) (floats : ℕ) (fit : Fitting o s work floats) where
+module _ (c : Call) (s : State) (fit : LongEnough (s .sizes) (lengthsOf c s)) where
   -- the mesh with other elements
   with-elements : List Tet → Mesh
   with-elements ts = record {
@@ -77,9 +77,9 @@ module _ (o : Options) (s : State) (work : List ℕ) (floats : ℕ) (fit : Fitti
   unfolding committed with-elements
   done-is count ts =
       let n : s .sizes .vertices ≡ length (pointsOf (s .sizes .vertices) (s .points)) = sym (length-points (s .sizes .vertices) (s .points)) in
-      let p = sym (floats-same (s .parameters) (fit .buffers .parameters)) in
-      let q = sym (floats-same (s .points) (fit .buffers .points)) in
-      let m = sym (over-is (take (s .sizes .vertices) (s .masks)) (s .masks) (s .masks) (s .sizes .vertices) (fit .buffers .masks) refl refl) in
+      let p = sym (floats-same (s .parameters) (fit .parameters)) in
+      let q = sym (floats-same (s .points) (fit .points)) in
+      let m = sym (over-is (take (s .sizes .vertices) (s .masks)) (s .masks) (s .masks) (s .sizes .vertices) (fit .masks) refl refl) in
       λ i. (
         Done count (record { vertices = n i; elements = length ts; triples = length (boundaryOf ts) }),
         record {

@@ -5,7 +5,7 @@ use mathlib.Core.Option.{none}
 use Rattle.mesh.specs.Words.{zeroWords}
 use Rattle.repair.specs.Step.{Pass, held, callOf}
 use Rattle.repair.proofs.Laws.Answers.{in-numbers}
-use Rattle.repair.proofs.Laws.Entry.{call-refused, call-made, fitting}
+use Rattle.repair.proofs.Laws.Entry.{call-refused, call-made, lengths}
 use Rattle.repair.proofs.Laws.Flip.Passed.{flip-fitting, flip-result, flip-finished}
 use Rattle.repair.proofs.flip.flip.Statement.{statement}
 use Rattle.repair.proofs.flip.flip.Tie as tie
@@ -60,8 +60,8 @@ returns-2 c =
     let s = held (a .s .sizes) (a .parameters .now) (a .points .now) (a .masks .now) (a .elements .now) (a .surface .now) in
     let i = (c .before .before .before .before .before .before .before .before .before .before .before .before .before .before .before .before .before .before .before .intake) in
     let m = (c .before .before .before .before .before .before .before .before .before .before .flip-all) in
-    let f = fitting k s (a .work .now) (a .floats .now) refl refl (i .result) (i .ensures .0) (c .before .before .before .before .before .before .before .before .before .before .before .before .before .before .if1 .left) _ (i .ensures .1 .0) refl in (
-      in-numbers (flip-finished (a .s .options) s _ _ f (m .result) _ _ (m .ensures) ∙ flip-result k s refl ∙ sym (call-made k s (a .work .now) (a .floats .now) refl refl (i .result) (i .ensures .0) (c .before .before .before .before .before .before .before .before .before .before .before .before .before .before .if1 .left))),
+    let f = lengths k s (a .work .now) (a .floats .now) refl refl (i .result) (i .ensures .0) (c .before .before .before .before .before .before .before .before .before .before .before .before .before .before .if1 .left) in (
+      in-numbers (flip-finished k s f (m .result) _ _ (m .ensures) ∙ flip-result k s refl ∙ sym (call-made k s (a .work .now) (a .floats .now) refl refl (i .result) (i .ensures .0) (c .before .before .before .before .before .before .before .before .before .before .before .before .before .before .if1 .left))),
       (c .before .before .clear .ensures ∙ ap zeroWords (m .kept .1 .1 .1 .1 .0 ∙ i .kept .1 .1 .1 .1 .1 .1 .1 .0), i .ensures .1 .1),
     )
 
