@@ -17,8 +17,7 @@ use crate::link::boundary::boundary_ok_in;
 use crate::link::boundary::list_boundary;
 use crate::link::features::feature_ok_in;
 use crate::link::interior::interior_ok_in;
-use crate::strata::bits_inside;
-use crate::strata::stratum_at;
+use crate::strata::stratum_inside;
 use crate::vertex::tet_at;
 use crate::words::clear_from;
 use geometry::bounds::Bounds;
@@ -98,9 +97,7 @@ fn edge_passes(
     if a == b {
         return true;
     }
-    let ma = stratum_at(masks, parameters, nv, bounds, a);
-    let mb = stratum_at(masks, parameters, nv, bounds, b);
-    if !bits_inside(ma, mb) {
+    if !stratum_inside(masks, parameters, nv, bounds, a, b) {
         return false;
     }
     edge_ok(area, n, a, b, masks, parameters, nv, bounds)

@@ -27,9 +27,24 @@ pub(crate) fn shared_bits(m: u64, n: u64) -> u32
 }
 
 // Whether the bits of a stratum are among those of another.
-pub fn bits_inside(m: u64, n: u64) -> bool
+fn bits_inside(m: u64, n: u64) -> bool
     requires { ⌜ m < 274877906944 ⌝ }
     ensures { λ r. ⌜ r ≡ sub (bitsOf m) (bitsOf n) ⌝ }
 {
     m & n == m
+}
+
+// Whether the stratum of u is inside that of v.
+pub fn stratum_inside(
+    masks: &[u32],
+    parameters: &[f64],
+    nv: usize,
+    bounds: Bounds,
+    u: u32,
+    v: u32,
+) -> bool
+    ensures { λ r. ⌜ r ≡ sub (bitsOf (stratumOf (now (masks .entry)) (pointsOf nv (now (parameters .entry))) bounds u)) (bitsOf (stratumOf (now (masks .entry)) (pointsOf nv (now (parameters .entry))) bounds v)) ⌝ }
+{
+    let m = stratum_at(masks, parameters, nv, bounds, u);
+    bits_inside(m, stratum_at(masks, parameters, nv, bounds, v))
 }

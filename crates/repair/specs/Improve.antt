@@ -19,6 +19,7 @@ use Rattle.mesh.specs.Tests.{every, nodup, any}
 use Rattle.mesh.specs.Element.{pair, allEdges, samePair, tet, verticesOf, allVertices, lePair}
 use Rattle.mesh.specs.Boundary.{boundaryNumber, boundaryOf}
 use Rattle.mesh.specs.Feature.{bitsOf, linkOk}
+use Rattle.mesh.specs.Feature as feature
 use Rattle.mesh.specs.Manifold.{nonmanifold}
 use Rattle.mesh.specs.Group.{groupOf}
 use Rattle.mesh.specs.Measure.{Measure, measure, isBad, badCount, lowestOf}

@@ -11,8 +11,8 @@ use geometry::bounds::rank;
 use mesh::rows::first_at_least;
 use mesh::rows::run_length;
 use mesh::star::Index;
-use mesh::strata::bits_inside;
 use mesh::strata::stratum_at;
+use mesh::strata::stratum_inside;
 use mesh::vertex::point_at;
 use mesh::words::high_half;
 use mesh::words::low_half;
@@ -68,7 +68,7 @@ pub(crate) fn stratum_rule(
     if !has_few(x) {
         return false;
     }
-    bits_inside(x, stratum_at(masks, parameters, nv, b, v))
+    stratum_inside(masks, parameters, nv, b, u, v)
 }
 
 // The first of n sorted rows that is no earlier than v's rank.

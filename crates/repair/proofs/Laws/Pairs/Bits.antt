@@ -59,7 +59,7 @@ module _ (o : Options) (m : Mesh) where
       sym (ap (λ (b : Bool). sub (bitsOf (stratumOf o m u)) (bitsOf (stratumOf o m v)) && b) (sym (ap (λ (n : ℕ). ltb (length (bitsOf n)) 3) e) ∙ h) ∙ and-false (sub (bitsOf (stratumOf o m u)) (bitsOf (stratumOf o m v))))
 
   -- fewer: the other test decides
-  pub rule-few : (u v x y : ℕ) → x ≡ stratumOf o m u → y ≡ stratumOf o m v → ltb (length (bitsOf x)) 3 ≡ true → (r : Bool) → r ≡ sub (bitsOf x) (bitsOf y) → r ≡ stratumRule o m u v
-  rule-few u v x y e f h r g =
+  pub rule-few : (u v : ℕ) {w x y : ℕ} → w ≡ stratumOf o m u → x ≡ stratumOf o m u → y ≡ stratumOf o m v → ltb (length (bitsOf w)) 3 ≡ true → (r : Bool) → r ≡ sub (bitsOf x) (bitsOf y) → r ≡ stratumRule o m u v
+  rule-few u v d e f h r g =
       g ∙ ap₂ (λ (a b : ℕ). sub (bitsOf a) (bitsOf b)) e f
-      ∙ sym (ap (λ (b : Bool). sub (bitsOf (stratumOf o m u)) (bitsOf (stratumOf o m v)) && b) (sym (ap (λ (n : ℕ). ltb (length (bitsOf n)) 3) e) ∙ h) ∙ and-true (sub (bitsOf (stratumOf o m u)) (bitsOf (stratumOf o m v))))
+      ∙ sym (ap (λ (b : Bool). sub (bitsOf (stratumOf o m u)) (bitsOf (stratumOf o m v)) && b) (sym (ap (λ (n : ℕ). ltb (length (bitsOf n)) 3) d) ∙ h) ∙ and-true (sub (bitsOf (stratumOf o m u)) (bitsOf (stratumOf o m v))))

@@ -15,14 +15,15 @@ has-few-requires c κs = search needs
 returns : tie.Need-returns
 returns c = λ o m f g h. let a = (c .before .before .before .before .before .args) in rule-many o m (a .u) (a .v) (c .before .before .stratum-at .result) (c .before .before .stratum-at .ensures .0 ∙ stratum-is o m (a .nv) (a .masks .now) (a .parameters .now) (a .b) f g h (a .u) (c .before .before .before .before .before .pre .0)) (sym (c .before .has-few .ensures) ∙ not-true _ (c .if1 .taken))
 
-stratum-at-requires-2 : tie.Need-stratum-at-requires-2
-stratum-at-requires-2 c κs = search needs
-
-bits-inside-requires : tie.Need-bits-inside-requires
-bits-inside-requires c κs = search needs
+stratum-inside-requires : tie.Need-stratum-inside-requires
+stratum-inside-requires c κs = search needs
 
 returns-2 : tie.Need-returns-2
-returns-2 c = λ o m f g h. let a = (c .before .before .before .before .before .before .before .args) in rule-few o m (a .u) (a .v) (c .before .before .before .before .stratum-at .result) (c .before .stratum-at2 .result) (c .before .before .before .before .stratum-at .ensures .0 ∙ stratum-is o m (a .nv) (a .masks .now) (a .parameters .now) (a .b) f g h (a .u) (c .before .before .before .before .before .before .before .pre .0)) (c .before .stratum-at2 .ensures .0 ∙ stratum-is o m (a .nv) (a .masks .now) (a .parameters .now) (a .b) f g h (a .v) (c .before .before .before .before .before .before .before .pre .1)) (sym (c .before .before .before .has-few .ensures) ∙ not-false _ (c .before .before .if1 .left)) _ (c .bits-inside .ensures)
+returns-2 c =
+    λ o m f g h.
+      let a = (c .before .before .before .before .before .before .args) in
+      let is = stratum-is o m (a .nv) (a .masks .now) (a .parameters .now) (a .b) f g h in
+      rule-few o m (a .u) (a .v) (c .before .before .before .stratum-at .ensures .0 ∙ is (a .u) (c .before .before .before .before .before .before .pre .0)) (is (a .u) (c .before .before .before .before .before .before .pre .0)) (is (a .v) (c .before .before .before .before .before .before .pre .1)) (sym (c .before .before .has-few .ensures) ∙ not-false _ (c .before .if1 .left)) _ (c .stratum-inside .ensures)
 
 pub stratum-rule-spec : {M : Type 1} → statement M
 stratum-rule-spec =
@@ -31,6 +32,5 @@ stratum-rule-spec =
     stratum-at-requires
     has-few-requires
     returns
-    stratum-at-requires-2
-    bits-inside-requires
+    stratum-inside-requires
     returns-2)
