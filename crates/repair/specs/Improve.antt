@@ -9,7 +9,7 @@ use lib.ListN.{length, getD}
 use Rattle.geometry.specs.declared.bounds.Options.{Options}
 use Rattle.geometry.specs.Float.{_+₆₄_, _*₆₄_, smaller}
 use Rattle.geometry.specs.Literals.{tenth, e-12, threeQuarters, thousandthMore}
-use Rattle.geometry.specs.Bounds.{spacing, cap, stratum}
+use Rattle.geometry.specs.Bounds.{spacing, cap}
 use Rattle.mesh.specs.declared.element.Pair.{Pair}
 use Rattle.mesh.specs.declared.element.Tet.{Tet}
 use Rattle.mesh.specs.Words.{pointAt}
@@ -41,7 +41,7 @@ listedEdges μ h ts =
 module _ (o : Options) (m : Mesh) where
   -- "the mask, with bits 32 to 37 for lying exactly on lo or hi"
   abbrev pub stratumOf : ℕ → ℕ
-  stratumOf v = stratum (getD (m .masks) v 0) (pointAt (m .parameters) v) (o .bounds)
+  stratumOf = feature.stratumOf (m .masks) (m .parameters) (o .bounds)
 
   abbrev pub capOf : ℕ → ℕ
   capOf v = cap (pointAt (m .parameters) v) (o .bounds)
