@@ -62,7 +62,7 @@ module _ (z : Sizes) (es : List ℕ) (x : Index) (many : x .vertices ≡ z .vert
     pub rounded : (w₀ w : List ℕ) (count : ℕ)
         → ((m : Mesh) → m .parameters ≡ pointsOf (x .vertices) ps → Stands o m x (x .room) w₀ (beforeRounds (tets (x .room) es)))
         → ((m : Mesh) (s : def.State) → Reads m (x .vertices) ps qs ms → Stands o m x (x .room) w₀ s
-            → Stands o m x (x .room) w (def.rounds o m (measure (m .points)) (o .passes) s) × (length (def.rounds o m (measure (m .points)) (o .passes) s .replaced) ≡ count + length (s .replaced)))
+        → Stands o m x (x .room) w (def.rounds o m (measure (m .points)) (o .passes) s) × (length (def.rounds o m (measure (m .points)) (o .passes) s .replaced) ≡ count + length (s .replaced)))
         → Stands o m x (z .elements) w (afterRounds o m (tets (z .elements) es)) × (length (afterRounds o m (tets (z .elements) es) .replaced) ≡ count + 0)
     rounded w₀ w count f g =
         let r = subst (λ u. Reads m u ps qs ms) (sym many) v in

@@ -39,8 +39,8 @@ returns c =
     let all = (c .before .before .before .before .before .before .before .before .before .before .before .before .layout .ensures .1) _ (c .before .before .before .before .before .before .before .before .before .before .before .before .before .before .before .before .before .before .before .before .pre .long) .room in
     let l = (c .before .before .live-elements) in
     λ m v.
-      let g = rounded (a .sizes) (a .elements .now) x many all (a .o) m (a .parameters .now) (a .points .now) (a .masks .now) v (c .before .before .before .before .before .before .before .before .before .before .begin .last .0) (c .before .before .before .before .before .before .rounds .last .0) (c .before .before .before .before .before .before .rounds .result) (c .before .before .before .before .before .before .before .before .before .before .begin .ensures) (c .before .before .before .before .before .before .rounds .ensures) in
-      collapsed (a .sizes) (a .elements .now) x many all (a .o) m _ (c .before .before .before .before .before .before .rounds .last .0) (l .last .0) (g .0) (l .result) (l .ensures .0) (l .ensures .1) (c .before .before .before .before .before .before .rounds .result) (g .1)
+    let g = rounded (a .sizes) (a .elements .now) x many all (a .o) m (a .parameters .now) (a .points .now) (a .masks .now) v (c .before .before .before .before .before .before .before .before .before .before .begin .last .0) (c .before .before .before .before .before .before .rounds .last .0) (c .before .before .before .before .before .before .rounds .result) (c .before .before .before .before .before .before .before .before .before .before .begin .ensures) (c .before .before .before .before .before .before .rounds .ensures) in
+    collapsed (a .sizes) (a .elements .now) x many all (a .o) m _ (c .before .before .before .before .before .before .rounds .last .0) (l .last .0) (g .0) (l .result) (l .ensures .0) (l .ensures .1) (c .before .before .before .before .before .before .rounds .result) (g .1)
 
 pub collapse-edges-spec : {M : Type 1} → statement M
 collapse-edges-spec =

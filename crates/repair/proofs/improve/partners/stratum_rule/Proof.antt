@@ -21,9 +21,9 @@ stratum-inside-requires c κs = search needs
 returns-2 : tie.Need-returns-2
 returns-2 c =
     λ o m f g h.
-      let a = (c .before .before .before .before .before .before .args) in
-      let is = stratum-is o m (a .nv) (a .masks .now) (a .parameters .now) (a .b) f g h in
-      rule-few o m (a .u) (a .v) (c .before .before .before .stratum-at .ensures .0 ∙ is (a .u) (c .before .before .before .before .before .before .pre .0)) (is (a .u) (c .before .before .before .before .before .before .pre .0)) (is (a .v) (c .before .before .before .before .before .before .pre .1)) (sym (c .before .before .has-few .ensures) ∙ not-false _ (c .before .if1 .left)) _ (c .stratum-inside .ensures)
+    let a = (c .before .before .before .before .before .before .args) in
+    let is = stratum-is o m (a .nv) (a .masks .now) (a .parameters .now) (a .b) f g h in
+    rule-few o m (a .u) (a .v) (c .before .before .before .stratum-at .ensures .0 ∙ is (a .u) (c .before .before .before .before .before .before .pre .0)) (is (a .u) (c .before .before .before .before .before .before .pre .0)) (is (a .v) (c .before .before .before .before .before .before .pre .1)) (sym (c .before .before .has-few .ensures) ∙ not-false _ (c .before .if1 .left)) _ (c .stratum-inside .ensures)
 
 pub stratum-rule-spec : {M : Type 1} → statement M
 stratum-rule-spec =
