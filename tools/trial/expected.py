@@ -126,7 +126,7 @@ for faults in range(256):
     print(f"intake faults {faults} {number}")
 
 
-# Block files, through `report`. The files are made by tools/blocks/blocks.py, and read here anew, as document 01 says.
+# Block files, through `report`. The files are made by tools/blocks/blocks.py, and read here anew, as document 01 says and request (i) of document 02.
 
 
 def words_at(data, k):
@@ -141,6 +141,19 @@ def small(*floats):
     return all(abs(x) <= 2**20 for x in floats)
 
 
+def used_words(words):
+    """The words from 3 on that the records of a block use: in the header not those of unused field places, nor numbers that a field's kind doesn't use."""
+    kind, _, count = words[:3]
+    used = set(range(3, 3 + {1: 92, 2: 13, 3: 4}[kind] * count))
+    for j in range(8 if kind == 1 else 0):
+        place = list(range(23 + 9 * j, 32 + 9 * j))
+        if j >= words[22]:
+            used -= set(place)
+        elif words[place[0]] == 0:
+            used -= set(place[3:])
+    return used
+
+
 def read_blocks(data):
     """The number of the table's block part or 10, and where there is none the header and the records of vertices and of elements."""
 
@@ -148,7 +161,11 @@ def read_blocks(data):
         if len(data) < 512 * (k + 1):
             return 1
         words = words_at(data, k)
-        return 2 if sum(words) % 2**32 else 3 if words[:3] != (kind, k, count) else 0
+        if sum(words) % 2**32:
+            return 2
+        if words[:3] != (kind, k, count):
+            return 3
+        return 30 if any(words[i] for i in set(range(3, 127)) - used_words(words)) else 0
 
     number = checked(0, 1, 1)
     if number:
@@ -264,6 +281,10 @@ for mesh, first, end in ((0, 0, 1536), (0, 1536, 2562), (1, 0, 1025)):
     print("block lengths", mesh, first, end, *answers([twice[:n] for n in range(first, end)]))
 for i in cases("blocks", "WORDS"):
     print("block values", i, *answers([with_word(GOOD, i, [v]) for v in range(40)]))
+for bit in (0, 31):
+    for k in range(3):
+        flipped = [with_word(GOOD, 128 * k + i, [words_at(GOOD, k)[i] ^ 1 << bit]) for i in range(3, 127)]
+        print("block words", k, bit, *answers(flipped))
 for i, words, v in rows(cases("blocks", "EDITS"), 3):
     data = with_word(GOOD, i, [v % 2**32, v >> 32][:words])
     print(f"block edit {i} {v:016x} {plotted(data)}")

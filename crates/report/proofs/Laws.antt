@@ -4,14 +4,17 @@ pub mod Listed
 pub mod Records
 pub mod Blocks
 pub mod Kinds
+pub mod Spare
 pub mod Text
 pub mod Limits
+pub mod Passed
 pub mod Lines
 pub mod Prefix
 pub mod Loops
 pub mod Example
 pub mod Decimal
 pub mod Passes
+pub mod Finished
 pub mod Plot
 pub mod Counted
 pub mod Room

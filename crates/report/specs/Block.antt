@@ -1,5 +1,5 @@
--- Block files (document 01, "Block", and the rows 1, 2, 3 and 10 of "Where each number is given"), as a definition `reading` of all bytes:
--- a number, or the plot. The file is one list of words, block after block. Definitions only.
+-- Block files (document 01, "Block", and the rows 1, 2, 3 and 10 of "Where each number is given"; document 02, request (i), for 30), as a
+-- definition `reading` of all bytes: a number, or the plot. The file is one list of words, block after block. Definitions only.
 use Prim.Native.Nat.{ℕ, zero, suc, _+_, _-_, _*_, _/_, _%_, _^_, min}
 use mathlib.Core.Bool.{Bool, not, cond, _&&_, _||_}
 use mathlib.Core.List.{List, [], _∷_}
@@ -12,8 +12,44 @@ use Rattle.geometry.specs.declared.field.Field.the-variants.{Level, Plane, Ball
 use Rattle.geometry.specs.Float.{zero64}
 use Rattle.mesh.specs.Words.{numbers}
 use Rattle.mesh.specs.Tests.{every}
-use Rattle.report.specs.Format.{wordsABlock, bytesABlock, headerKind, vertexKind, elementKind, firstRecord, vertexSize, verticesABlock, elementSize, elementsABlock, verticesPlace, elementsPlace, boundsPlace, cellsPlace, periodicPlace, passesPlace, countPlace, firstField, fieldPlaces, fieldSize, levelKind, planeKind, ballKind, mostVertices, mostElements}
+use Rattle.report.specs.Format.{wordsABlock, bytesABlock, headerKind, vertexKind, elementKind, firstRecord, recordRoom, recordSize, vertexSize, verticesABlock, elementSize, elementsABlock, verticesPlace, elementsPlace, boundsPlace, cellsPlace, periodicPlace, passesPlace, countPlace, firstField, fieldPlaces, fieldSize, levelSize, levelKind, planeKind, ballKind, mostVertices, mostElements}
 use Rattle.report.specs.Bytes.{wordIn, floatIn, pointFrom, sumOf, listed, firstOf}
+
+-- ---- spare words (document 02, request (i))
+
+-- how many fields there are
+abbrev pub fieldsIn : List ℕ → ℕ
+fieldsIn s = wordIn s countPlace
+
+-- the kind in the place j of a field
+abbrev pub kindAt : List ℕ → ℕ → ℕ
+kindAt s j = wordIn s (firstField + fieldSize * j)
+
+-- the n words from the word i on are zero
+unfoldable pub zerosFrom : List ℕ → ℕ → ℕ → Bool
+zerosFrom s i n = every (λ j. eqb (wordIn s j) 0) (numbers i n)
+
+-- "words 3 to 126 that no record uses" are zero: those of the block k behind so many records of this kind
+unfoldable pub restZero : List ℕ → ℕ → ℕ → ℕ → Bool
+restZero s k kind count =
+    zerosFrom s (wordsABlock * k + firstRecord + recordSize kind * count) (recordRoom - recordSize kind * count)
+
+-- "numbers that a field's kind doesn't use": a level uses its kind and c; "A place of unknown kind counts as using all its numbers"
+abbrev pub wordsUsed : ℕ → ℕ
+wordsUsed kind = cond (eqb kind levelKind) levelSize fieldSize
+
+-- "the header's unused field places" are those from the number of fields on, so "with more than 8 fields no place is unused"
+unfoldable pub usedIn : List ℕ → ℕ → ℕ
+usedIn s j = cond (ltb j (fieldsIn s)) (wordsUsed (kindAt s j)) 0
+
+-- "Spare words must be zero, also in the header's unused field places and in numbers that a field's kind doesn't use": in the place j
+unfoldable pub placeZero : List ℕ → ℕ → Bool
+placeZero s j = zerosFrom s (firstField + fieldSize * j + usedIn s j) (fieldSize - usedIn s j)
+
+-- "Spare words must be zero": all of the block k, where this kind and count are expected; the header is the block 0
+unfoldable pub spareZero : List ℕ → ℕ → ℕ → ℕ → Bool
+spareZero s k kind count =
+    restZero s k kind count && (not (eqb kind headerKind) || every (placeZero s) (numbers 0 fieldPlaces))
 
 -- ---- a block
 
@@ -30,10 +66,11 @@ abbrev pub isExpected : List ℕ → ℕ → ℕ → ℕ → Bool
 isExpected s k kind count =
     eqb (wordIn s (wordsABlock * k)) kind && (eqb (wordIn s (wordsABlock * k + 1)) k && eqb (wordIn s (wordsABlock * k + 2)) count)
 
--- the rows 1, 2, 3 for the block k, where this kind and count are expected
+-- the rows 1, 2, 3 for the block k, where this kind and count are expected; then "30, in the block place, after 3 of the same block"
 unfoldable pub blockNumber : List ℕ → ℕ → ℕ → ℕ → ℕ
 blockNumber s k kind count =
-    cond (notWhole s k) 1 (cond (not (addsToZero s k)) 2 (cond (not (isExpected s k kind count)) 3 0))
+    cond (notWhole s k) 1 (cond (not (addsToZero s k)) 2
+    (cond (not (isExpected s k kind count)) 3 (cond (not (spareZero s k kind count)) 30 0)))
 
 -- ---- the blocks of a file
 
@@ -82,7 +119,7 @@ unfoldable pub bodyNumber : List ℕ → ℕ → ℕ → ℕ
 bodyNumber s vertices elements =
     firstOf (limitNumber vertices elements) (blocksFrom s vertices elements (vertexBlocks vertices + elementBlocks elements) 1)
 
--- 1, 2, 3 or 10 for the whole file, and 0 where none applies
+-- 1, 2, 3, 30 or 10 for the whole file, and 0 where none applies
 unfoldable pub fileNumber : List ℕ → ℕ
 fileNumber s = firstOf (blockNumber s 0 headerKind 1) (bodyNumber s (verticesIn s) (elementsIn s))
 
@@ -100,21 +137,13 @@ headerOptions s = record {
   passes = wordIn s passesPlace;
 }
 
--- how many fields there are
-abbrev pub fieldsIn : List ℕ → ℕ
-fieldsIn s = wordIn s countPlace
-
--- the kind in the place j of a field
-abbrev pub kindAt : List ℕ → ℕ → ℕ
-kindAt s j = wordIn s (firstField + fieldSize * j)
-
--- "(level: c; plane: n, d; ball: c, r)": a field's numbers from the word i on, "numbers that a field's kind doesn't use are not read"
+-- "(level: c; plane: n, d; ball: c, r)": a field's numbers from the word i on; those that its kind doesn't use are no part of it
 unfoldable pub fieldFrom : List ℕ → ℕ → ℕ → Field
 fieldFrom s kind i =
     cond (eqb kind levelKind) (Level (floatIn s i))
     (cond (eqb kind planeKind) (Plane (pointFrom s i) (floatIn s (i + 6))) (Ball (pointFrom s i) (floatIn s (i + 6))))
 
--- the field j, and a level 0 where "unused field places .. are not read"
+-- the field j, and a level 0 for an unused place
 unfoldable pub fieldAt : List ℕ → ℕ → Field
 fieldAt s j = cond (ltb j (fieldsIn s)) (fieldFrom s (kindAt s j) (firstField + 1 + fieldSize * j)) (Level zero64)
 
@@ -174,7 +203,7 @@ pub data Reading : Type 0 where
   refused : ℕ → Reading
   read : Plot → Reading
 
--- 1, 2, 3, 10 in their order, then 11 for the fields: what else the row 11 says is intake's
+-- 1, 2, 3, 30 and 10 in their order, then 11 for the fields: what else the row 11 says is intake's
 unfoldable pub readingNumber : List ℕ → ℕ
 readingNumber s = firstOf (fileNumber s) (kindsNumber s)
 

@@ -1,6 +1,8 @@
 -- The numbers of block files, once each, with the words of document 01 ("Block") that give them, and `plot`'s limits. src/format.rt has the
 -- same names for the code. A size is a number of words, a place the number of a word in its block. Definitions only.
 use Prim.Native.Nat.{ℕ, _+_, _-_, _*_, _/_}
+use mathlib.Core.Bool.{cond}
+use lib.Dec.{eqb}
 
 -- ---- a block
 
@@ -96,11 +98,19 @@ fieldSize = 9
 abbrev pub headerSize : ℕ
 headerSize = 92
 
+-- how many words a record of a block of this kind takes
+abbrev pub recordSize : ℕ → ℕ
+recordSize kind = cond (eqb kind headerKind) headerSize (cond (eqb kind vertexKind) vertexSize elementSize)
+
 -- ---- the kinds of fields
 
 -- "(level: c; .."
 abbrev pub levelKind : ℕ
 levelKind = 0
+
+-- a level's kind and c
+abbrev pub levelSize : ℕ
+levelSize = 3
 
 -- ".. plane: n, d; .."
 abbrev pub planeKind : ℕ

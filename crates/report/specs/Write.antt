@@ -1,13 +1,14 @@
--- Block files as written (document 01, "Block"): `fileOf` is the file of a plot, and reading it gives the plot back (proofs/Laws/Write).
--- The file is a list of words, block after block, and each word is four bytes. "Spare words, unused field places and numbers that a field's
--- kind doesn't use" are 0. A float has the words of its pattern; a NaN's is 0x7FF8000000000000, so that it is read as a NaN.
+-- Block files as written (document 01, "Block"): `fileOf` is the file of a plot, reading it gives the plot back, and a file that is read is
+-- the file of its plot (proofs/Laws/Write).
+-- The file is a list of words, block after block, and each word is four bytes. Spare words are 0 (document 02, request (i)). A float has
+-- the words of its pattern; a NaN's is 0x7FF8000000000000, so that it is read as a NaN.
 -- Definitions only.
 use mathlib.Core.Path.{_≡_}
 use Prim.Native.Nat.{ℕ, _+_, _-_, _*_, _/_, _%_, _^_, _<_, _≤_, min}
-use mathlib.Core.Bool.{Bool, cond, _&&_}
+use mathlib.Core.Bool.{Bool, false, cond, _&&_}
 use mathlib.Core.List.{List, [], _∷_, _++_}
 use lib.Dec.{T, ltb, leb, eqb}
-use lib.Ieee.{Float, binary64, fits}
+use lib.Ieee.{Float, binary64, fits, isNan}
 use lib.ListN.{length, getD, take, drop}
 use Rattle.geometry.specs.declared.bounds.Bounds.{Bounds}
 use Rattle.geometry.specs.declared.bounds.Options.{Options}
@@ -232,3 +233,25 @@ pub record Exact (p : Plot) : Type 0 where
   pub corners-all : length (p .corners) ≡ 4 * p .elements
   pub fields-all : length (p .fields) ≡ fieldPlaces
   pub unused : (j : ℕ) → p .count ≤ j → j < fieldPlaces → getD (p .fields) j (Level zero64) ≡ Level zero64
+
+-- ---- one plot, one file (document 02, request (i): "Two files of one plot then had different bytes")
+
+-- coordinates that are no NaN
+pub record PointIsNumber (q : Point) : Type 0 where
+  pub x-number : isNan (q .x) ≡ false
+  pub y-number : isNan (q .y) ≡ false
+  pub z-number : isNan (q .z) ≡ false
+
+-- no number of a field is a NaN
+abbrev pub FieldIsNumber : Field → Type 0
+FieldIsNumber (Level c) = isNan c ≡ false
+FieldIsNumber (Plane n d) = PointIsNumber n × (isNan d ≡ false)
+FieldIsNumber (Ball c r) = PointIsNumber c × (isNan r ≡ false)
+
+-- no float of a plot is a NaN, whose pattern the reading does not tell
+pub record NoNan (p : Plot) : Type 0 where
+  pub lo-number : PointIsNumber (p .options .bounds .lo)
+  pub hi-number : PointIsNumber (p .options .bounds .hi)
+  pub fields-number : (j : ℕ) → j < p .count → FieldIsNumber (getD (p .fields) j (Level zero64))
+  pub parameters-number : (i : ℕ) → isNan (floatAt (p .parameters) i) ≡ false
+  pub points-number : (i : ℕ) → isNan (floatAt (p .points) i) ≡ false

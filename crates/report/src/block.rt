@@ -1,4 +1,4 @@
-// The blocks of a file: the numbers 1, 2, 3 and 10.
+// The blocks of a file: the numbers 1, 2, 3, 30 and 10.
 use crate::bytes::sum;
 use crate::bytes::word;
 use crate::format::BYTES_A_BLOCK;
@@ -12,14 +12,15 @@ use crate::format::VERTEX_KIND;
 use crate::format::VERTICES_A_BLOCK;
 use crate::format::VERTICES_PLACE;
 use crate::format::WORDS_A_BLOCK;
+use crate::spare::spare_zero;
 use mesh::words::least;
 ghost use mathlib.Core.Path.{_≡_};
 ghost use Prim.Native.Nat.{_<_, _≤_, _-_, _+_, _*_};
-ghost use Rattle.report.specs.Format.{mostVertices, mostElements};
+ghost use Rattle.report.specs.Format.{elementsABlock, mostVertices, mostElements};
 ghost use Rattle.report.specs.Block.{addsToZero, isExpected, blockNumber, vertexBlocks, elementBlocks, kindOf, countOf, endNumber, blocksFrom, bodyNumber, fileNumber};
 
 // n - m, and 0 where m is above n.
-fn minus(n: usize, m: usize) -> usize
+pub(crate) fn minus(n: usize, m: usize) -> usize
     ensures { λ r. ⌜ r ≡ n - m ⌝ }
 {
     if m <= n { n - m } else { 0 }
@@ -47,9 +48,9 @@ fn is_expected(s: &[u8], k: usize, kind: u32, count: usize) -> bool
     word(s, WORDS_A_BLOCK * k + 2) as usize == count
 }
 
-// 1, 2 or 3 for the block k, and else 0.
+// 1, 2, 3 or 30 for the block k, and else 0.
 pub(crate) fn block_number(s: &[u8], k: usize, kind: u32, count: usize) -> u32
-    requires { ⌜ k < 1000 ⌝ }
+    requires { ⌜ (k < 1000) × (count < 1000) ⌝ }
     ensures { λ r. ⌜ r ≡ blockNumber (now (s .entry)) k kind count ⌝ }
 {
     if s.len() < BYTES_A_BLOCK * (k + 1) {
@@ -60,6 +61,9 @@ pub(crate) fn block_number(s: &[u8], k: usize, kind: u32, count: usize) -> u32
     }
     if !is_expected(s, k, kind, count) {
         return 3;
+    }
+    if !spare_zero(s, k, kind, count) {
+        return 30;
     }
     0
 }
@@ -95,7 +99,7 @@ fn kind_of(vertices: usize, k: usize) -> u32
 // The count of the block k, from 1 on.
 fn count_of(vertices: usize, elements: usize, k: usize) -> usize
     requires { ⌜ (vertices ≤ mostVertices) × (k < 1000) ⌝ }
-    ensures { λ r. ⌜ r ≡ countOf vertices elements k ⌝ }
+    ensures { λ r. ⌜ (r ≡ countOf vertices elements k) × (r ≤ elementsABlock) ⌝ }
 {
     let b = vertex_blocks(vertices);
     let before = minus(k, 1);
@@ -116,7 +120,7 @@ fn end_number(s: &[u8], k: usize) -> u32
     if BYTES_A_BLOCK * k < s.len() { 1 } else { 0 }
 }
 
-// 1, 2 or 3 for the block k behind the header, and else 0.
+// 1, 2, 3 or 30 for the block k behind the header, and else 0.
 fn next_number(s: &[u8], vertices: usize, elements: usize, k: usize) -> u32
     requires { ⌜ (vertices ≤ mostVertices) × (k < 1000) ⌝ }
     ensures { λ r. ⌜ r ≡ blockNumber (now (s .entry)) k (kindOf vertices k) (countOf vertices elements k) ⌝ }
@@ -160,7 +164,7 @@ fn body_number(s: &[u8], vertices: usize, elements: usize) -> u32
     )
 }
 
-// 1, 2, 3 or 10 for the whole file, and else 0.
+// 1, 2, 3, 30 or 10 for the whole file, and else 0.
 pub fn file_number(s: &[u8]) -> u32
     ensures { λ r. ⌜ r ≡ fileNumber (now (s .entry)) ⌝ }
 {

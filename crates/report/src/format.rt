@@ -51,6 +51,8 @@ pub(crate) const HEADER_SIZE: usize = 92;
 // The kinds of fields.
 pub(crate) const LEVEL_KIND: u32 = 0;
 
+pub(crate) const LEVEL_SIZE: usize = 3;
+
 pub(crate) const PLANE_KIND: u32 = 1;
 
 pub(crate) const BALL_KIND: u32 = 2;

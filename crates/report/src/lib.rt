@@ -8,6 +8,7 @@ mod print;
 mod records;
 pub mod report;
 mod run;
+mod spare;
 mod table;
 mod text;
 pub mod write;

@@ -48,7 +48,7 @@ const WORDS: [u64; 18] = [
 ];
 
 // Changes to the example, three numbers a row: a word's place, how many words are set, their value.
-const EDITS: [u64; 120] = [
+const EDITS: [u64; 138] = [
     // 25 vertices, 25 elements, the greatest word
     0x003,
     0x1,
@@ -176,6 +176,26 @@ const EDITS: [u64; 120] = [
     0x1,
     0xffff_ffff,
     0x17e,
+    0x1,
+    0x0000_0001,
+    // no field where there was one, -0.0 and a last word among the numbers that a level does not use, the last place's last word
+    0x016,
+    0x1,
+    0x0000_0000,
+    0x01b,
+    0x1,
+    0x8000_0000,
+    0x01f,
+    0x1,
+    0x0000_0009,
+    0x05e,
+    0x1,
+    0x0000_0007,
+    // the last word that a level uses, the last one that a vertex uses
+    0x019,
+    0x1,
+    0x3ff0_0000,
+    0x0b6,
     0x1,
     0x0000_0001,
 ];
@@ -447,6 +467,55 @@ fn all_values() {
     }
 }
 
+// Which byte of a word has its highest or its lowest bit.
+fn end_byte(high: bool) -> usize
+    ensures { λ r. ⌜ r ≤ 3 ⌝ }
+{
+    if high { 3 } else { 0 }
+}
+
+// The word i with its highest or its lowest bit changed, its block sealed anew. The word is put back, not the seal.
+fn try_word(file: &mut [u8], n: usize, i: usize, high: bool, times: &mut [u32])
+    requires { ⌜ i < 640 ⌝ }
+{
+    let p = 4 * i + end_byte(high);
+    let b = byte(file, p);
+    put_byte(file, p, changed(b, high));
+    seal(file, i / 128);
+    count(times, answered(file, n));
+    put_byte(file, p, b);
+}
+
+// One bit changed in the words 3 to 126 of the block k, each in turn.
+fn try_words(file: &mut [u8], n: usize, k: usize, high: bool, times: &mut [u32])
+    requires { ⌜ k < 5 ⌝ }
+{
+    for i in 3..127 {
+        try_word(file, n, 128 * k + i, high, times);
+    }
+}
+
+// Prints the block, the number of the bit that is changed in each word, and the answers.
+fn block_words(k: usize, high: bool)
+    requires { ⌜ k < 5 ⌝ }
+{
+    let mut file = [0u8; 2561];
+    let mut times = [0u32; 100];
+    let n = put_file(0, &mut file);
+    try_words(&mut file, n, k, high, &mut times);
+    text(b"block words");
+    number(k as u64);
+    number(if high { 31 } else { 0 });
+    show_times(&times);
+    text(b"\n");
+}
+
+fn all_words(high: bool) {
+    for k in 0..3 {
+        block_words(k, high);
+    }
+}
+
 // How far behind the first of one or two words the last is.
 fn last(words: u64) -> usize
     ensures { λ r. ⌜ r ≤ 1 ⌝ }
@@ -476,7 +545,7 @@ fn edit(i: u64, words: u64, v: u64) {
 }
 
 fn at(i: usize) -> u64 {
-    if i < 120 { EDITS[i] } else { 0 }
+    if i < 138 { EDITS[i] } else { 0 }
 }
 
 fn edit_row(row: usize)
@@ -486,7 +555,7 @@ fn edit_row(row: usize)
 }
 
 fn all_edits() {
-    for row in 0..40 {
+    for row in 0..46 {
         edit_row(row);
     }
 }
@@ -537,6 +606,8 @@ pub(crate) fn run() {
     all_lengths(0, 1536, 1536, 2562);
     all_lengths(1, 512, 0, 1025);
     all_values();
+    all_words(false);
+    all_words(true);
     all_edits();
     exchanged();
 }

@@ -1,6 +1,6 @@
 -- A file that is read: its plot in the passes' buffers, and what is printed for it. Assumes nothing.
 use mathlib.Core.Path.{_≡_, refl, sym, ap, ap₂, subst, _∙_}
-use mathlib.Core.Bool.{Bool, true, false, cond, _&&_}
+use mathlib.Core.Bool.{true}
 use mathlib.Core.List.{List, _++_}
 use Prim.Native.Nat.{ℕ, _+_, _*_, _≤_}
 use native.Mathlib.Omega.{arith}
@@ -8,42 +8,26 @@ use lib.Dec.{leb}
 use lib.Ieee.{Float}
 use lib.ListN.{length, take, drop}
 use lib.Seq.{sets}
-use borrow.Author.Tests.{leb-true, le-leb, ne-eqb, eq-eqb}
+use borrow.Author.Tests.{le-leb, ne-eqb, eq-eqb}
 use Rattle.geometry.specs.declared.bounds.Options.{Options}
 use Rattle.geometry.specs.declared.field.Field.{Field}
 use Rattle.mesh.specs.declared.element.Tet.{Tet}
 use Rattle.mesh.specs.declared.boundary.Outcome.{Outcome}
-use Rattle.mesh.specs.Tests.{every}
-use Rattle.mesh.specs.Words.{pointsOf, numbers}
+use Rattle.mesh.specs.Words.{pointsOf}
 use Rattle.mesh.specs.Element.{tets}
 use Rattle.mesh.specs.Surface.{triplesOf, answerOf, surfaceWords, callFits, Call, boundaryCall}
-use Rattle.mesh.proofs.Laws.Bools.{and-left, and-intro}
+use Rattle.mesh.proofs.Laws.Bools.{and-intro}
 use Rattle.repair.specs.Step.{State, over, meshOf}
-use Rattle.report.specs.Format.{fieldPlaces, ballKind, mostElements}
+use Rattle.report.specs.Format.{mostElements}
 use Rattle.report.specs.Bytes.{listed}
-use Rattle.report.specs.Block.{verticesIn, elementsIn, fieldsIn, kindAt, vertexBlocks, parameterRow, pointRow, maskRow, elementRow, fileNumber, kindsNumber, headerOptions, headerFields, readingNumber, plotIn, refused, read, reading}
+use Rattle.report.specs.Block.{verticesIn, elementsIn, fieldsIn, vertexBlocks, parameterRow, pointRow, maskRow, elementRow, headerOptions, headerFields, readingNumber, plotIn, refused, read, reading}
 use Rattle.report.specs.Table.{refusedText}
 use Rattle.report.specs.inside.Written.{Written}
 use Rattle.report.specs.declared.run.Ran.{Ran}
 use Rattle.report.specs.Run.{Setting, runPasses, sizesLeft}
 use Rattle.report.specs.Report.{wordRoom, floatRoom, placed, blank, printed, runText, textOf, report}
 use Rattle.report.proofs.Laws.Listed.{length-listed}
-use Rattle.report.proofs.Laws.Limits.{first-zero}
 use Rattle.report.proofs.Laws.Prefix.{reading-front}
-
--- ---- what a file that is read has
-
--- at most 8 fields
-pub read-fields : (s : List ℕ) → readingNumber s ≡ 0 → fieldsIn s ≤ fieldPlaces
-unfolding readingNumber kindsNumber
-read-fields s h = go (leb (fieldsIn s) fieldPlaces && every (λ j. leb (kindAt s j) ballKind) (numbers 0 (fieldsIn s))) refl (first-zero (fileNumber s) (kindsNumber s) h .1)
-  where
-    no : _≡_ {A = ℕ} 11 0 → ⊥
-    no z = omega arith
-
-    go : (b : Bool) → (leb (fieldsIn s) fieldPlaces && every (λ j. leb (kindAt s j) ballKind) (numbers 0 (fieldsIn s))) ≡ b → _≡_ {A = ℕ} (cond b 0 11) 0 → fieldsIn s ≤ fieldPlaces
-    go true e k = leb-true (fieldsIn s) fieldPlaces (and-left (leb (fieldsIn s) fieldPlaces) (every (λ j. leb (kindAt s j) ballKind) (numbers 0 (fieldsIn s))) e)
-    go false e k = absurd (no k)
 
 -- ---- the buffers
 

@@ -13,11 +13,19 @@ use Rattle.mesh.proofs.Laws.Bools.{split}
 use Rattle.mesh.proofs.Laws.Intake.Chains.{neither-left, neither-right}
 use Rattle.mesh.specs.Words.{numbers}
 use Rattle.mesh.specs.Tests.{every}
-use Rattle.report.specs.Format.{wordsABlock, bytesABlock, verticesABlock, elementsABlock, boundsPlace, cellsPlace, periodicPlace, passesPlace, countPlace, firstField, fieldPlaces, fieldSize, ballKind, mostVertices, mostElements}
+use Rattle.report.specs.Format.{wordsABlock, bytesABlock, firstRecord, recordRoom, recordSize, verticesABlock, elementsABlock, boundsPlace, cellsPlace, periodicPlace, passesPlace, countPlace, firstField, fieldPlaces, fieldSize, ballKind, mostVertices, mostElements}
 use Rattle.report.specs.Bytes.{wordIn, floatIn, pointFrom, sumOf, listed, firstOf}
-use Rattle.report.specs.Block.{addsToZero, blockNumber, kindOf, countOf, vertexBlocks, elementBlocks, blocksFrom, verticesIn, elementsIn, bodyNumber, fileNumber, headerOptions, fieldsIn, kindAt, fieldFrom, fieldAt, kindsNumber, vertexPlace, parameterRow, pointRow, maskRow, elementPlace, elementRow, plotIn, readingNumber, reading}
+use Rattle.report.specs.Block.{zerosFrom, restZero, usedIn, placeZero, spareZero, addsToZero, blockNumber, kindOf, countOf, vertexBlocks, elementBlocks, blocksFrom, verticesIn, elementsIn, bodyNumber, fileNumber, headerOptions, fieldsIn, kindAt, fieldFrom, fieldAt, kindsNumber, vertexPlace, parameterRow, pointRow, maskRow, elementPlace, elementRow, plotIn, readingNumber, reading}
 use Rattle.report.specs.Block.{read}
 use Rattle.report.proofs.Laws.Limits.{read-few}
+use Rattle.report.proofs.Laws.Spare.{zeroAt}
+
+-- tests that are alike
+pub every-same : (p q : ℕ → Bool) (i n : ℕ) → ((j : ℕ) → i ≤ j → j < i + n → p j ≡ q j) → every p (numbers i n) ≡ every q (numbers i n)
+unfolding numbers
+every-same p q i zero e = refl
+every-same p q i (suc n) e =
+    ap₂ (λ (a b : Bool). a && b) (e i (omega arith) (omega arith)) (every-same p q (i + 1) n (λ j g h. e j (omega arith) (omega arith)))
 
 module _ (s : List ℕ) (n : ℕ) where
   -- a word that lies in the front
@@ -53,11 +61,41 @@ module _ (s : List ℕ) (n : ℕ) where
         | inr f ↦ let u = ltb-false k (length s) f in le-ltb k (length (take n s)) (omega arith) ∙ sym f
       ]
 
+  -- words that lie in the front are zero alike
+  pub zeros-front : (i m : ℕ) → ((j : ℕ) → i ≤ j → j < i + m → 4 * j + 4 ≤ n) → zerosFrom (take n s) i m ≡ zerosFrom s i m
+  unfolding zerosFrom
+  zeros-front i m h = every-same (zeroAt (take n s)) (zeroAt s) i m (λ j g l. ap (λ (w : ℕ). eqb w 0) (word-front j (h j g l)))
+
+  -- the words behind the records of the block k
+  pub rest-front : (k kind count : ℕ) → bytesABlock * (k + 1) ≤ n → restZero (take n s) k kind count ≡ restZero s k kind count
+  unfolding restZero
+  rest-front k kind count h = behind (recordSize kind * count)
+    where
+      behind : (u : ℕ) → zerosFrom (take n s) (wordsABlock * k + firstRecord + u) (recordRoom - u) ≡ zerosFrom s (wordsABlock * k + firstRecord + u) (recordRoom - u)
+      behind u = zeros-front (wordsABlock * k + firstRecord + u) (recordRoom - u) (λ j g l. omega arith)
+
+  -- the place j of a field uses as many words
+  pub used-front : (j : ℕ) → j < fieldPlaces → bytesABlock ≤ n → usedIn (take n s) j ≡ usedIn s j
+  unfolding usedIn
+  used-front j l h = rw (word-front countPlace (omega arith), word-front (firstField + fieldSize * j) (omega arith))
+
+  -- the spare words of the place j
+  pub place-front : (j : ℕ) → j < fieldPlaces → bytesABlock ≤ n → placeZero (take n s) j ≡ placeZero s j
+  unfolding placeZero
+  place-front j l h =
+      rw (used-front j l h) (zeros-front (firstField + fieldSize * j + usedIn s j) (fieldSize - usedIn s j) (λ i g u. omega arith))
+
+  -- the spare words of the block k
+  pub spare-front : (k kind count : ℕ) → bytesABlock * (k + 1) ≤ n → spareZero (take n s) k kind count ≡ spareZero s k kind count
+  unfolding spareZero
+  spare-front k kind count h =
+      rw (rest-front k kind count h, every-same (placeZero (take n s)) (placeZero s) 0 fieldPlaces (λ j g l. place-front j (omega arith) (omega arith)))
+
   -- the block k lies in the front
   pub block-front : (k kind count : ℕ) → bytesABlock * (k + 1) ≤ n → blockNumber (take n s) k kind count ≡ blockNumber s k kind count
   unfolding blockNumber addsToZero
   block-front k kind count h =
-      rw (length-front (bytesABlock * (k + 1)) h, sum-front (wordsABlock * k) wordsABlock (omega arith), word-front (wordsABlock * k) (omega arith), word-front (wordsABlock * k + 1) (omega arith), word-front (wordsABlock * k + 2) (omega arith))
+      rw (length-front (bytesABlock * (k + 1)) h, sum-front (wordsABlock * k) wordsABlock (omega arith), word-front (wordsABlock * k) (omega arith), word-front (wordsABlock * k + 1) (omega arith), word-front (wordsABlock * k + 2) (omega arith), spare-front k kind count h)
 
   -- blocks that lie in the front with a byte behind them
   pub blocks-front : (v e left k : ℕ) → bytesABlock * (k + left) < n → blocksFrom (take n s) v e left k ≡ blocksFrom s v e left k
@@ -91,12 +129,6 @@ pub listed-same : {A : Type 0} (f g : ℕ → List A) (n : ℕ) → ((j : ℕ) �
 unfolding listed
 listed-same f g zero e = refl
 listed-same {A} f g (suc n) e = ap₂ (λ (a b : List A). a ++ b) (listed-same f g n (λ j h. e j (omega arith))) (e n (omega arith))
-
--- tests that are alike
-pub every-same : (p q : ℕ → Bool) (i n : ℕ) → ((j : ℕ) → j < i + n → p j ≡ q j) → every p (numbers i n) ≡ every q (numbers i n)
-unfolding numbers
-every-same p q i zero e = refl
-every-same p q i (suc n) e = ap₂ (λ (a b : Bool). a && b) (e i (omega arith)) (every-same p q (i + 1) n (λ j h. e j (omega arith)))
 
 module _ (s : List ℕ) (n : ℕ) (enough : 2561 ≤ n) where
   -- a float in the five blocks
@@ -133,7 +165,7 @@ module _ (s : List ℕ) (n : ℕ) (enough : 2561 ≤ n) where
   kinds-front : kindsNumber (take n s) ≡ kindsNumber s
   unfolding kindsNumber
   kinds-front = rw (word-front s n countPlace (omega arith)) (elim (split (leb (fieldsIn s) fieldPlaces)) [
-    | inl t ↦ rw t (ap (λ (b : Bool). cond b 0 11) (every-same (λ j. leb (kindAt (take n s) j) ballKind) (λ j. leb (kindAt s j) ballKind) 0 (fieldsIn s) (λ j h. kind j (leb-true (fieldsIn s) fieldPlaces t) h)))
+    | inl t ↦ rw t (ap (λ (b : Bool). cond b 0 11) (every-same (λ j. leb (kindAt (take n s) j) ballKind) (λ j. leb (kindAt s j) ballKind) 0 (fieldsIn s) (λ j g h. kind j (leb-true (fieldsIn s) fieldPlaces t) h)))
     | inr f ↦ rw f
   ])
     where

@@ -1,4 +1,4 @@
--- The writing of block files, and that what is written is read back, by subject.
+-- The writing of block files, that what is written is read back, and that what is read has one file, by subject.
 pub mod Words
 pub mod Puts
 pub mod Sizes
@@ -6,6 +6,10 @@ pub mod Files
 pub mod Holds
 pub mod Rows
 pub mod Header
+pub mod Spare
 pub mod Numbers
 pub mod Back
 pub mod Again
+pub mod Places
+pub mod Held
+pub mod Whole

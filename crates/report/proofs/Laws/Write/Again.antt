@@ -1,27 +1,28 @@
--- A file that is read and then written anew is read as before; and no two plots have one file. Assumes nothing.
+-- What is read is exact and sound, so that (by `same-back`) its file is read as it, a NaN in it or not; and no two plots have one file.
+-- Assumes nothing.
 use mathlib.Core.Path.{_≡_, refl, sym, ap, subst, _∙_}
 use mathlib.Core.Logic.{inl, inr}
 use mathlib.Core.List.{List, [], _∷_, _++_}
 use Prim.Native.Nat.{ℕ, zero, suc, _+_, _-_, _*_, _^_, _<_, _≤_}
 use native.Mathlib.Omega.{arith}
-use lib.Dec.{T, ltb, leb, eqb}
+use lib.Dec.{T, ltb, eqb}
 use lib.Ieee.{Float, binary64, fits}
 use lib.Ieee.Bits.{ofBits-fits}
 use lib.ListN.{length, getD, List·getD-append}
 use lib.Seq.{getD-append-add}
-use borrow.Author.Tests.{leb-true, le-ltb}
+use borrow.Author.Tests.{le-ltb}
 use Rattle.geometry.specs.declared.field.Field.the-variants.{Level}
 use Rattle.geometry.specs.Float.{zero64}
 use Rattle.mesh.proofs.Laws.Bools.{split}
 use Rattle.mesh.proofs.Laws.Parts.{side}
 use Rattle.report.specs.Format.{boundsPlace, cellsPlace, periodicPlace, passesPlace, firstField, fieldPlaces, fieldSize}
 use Rattle.report.specs.Bytes.{byteAt, wordIn, floatIn, pointFrom, listed}
-use Rattle.report.specs.Block.{Plot, verticesIn, elementsIn, vertexBlocks, headerOptions, fieldsIn, fieldFrom, fieldAt, headerFields, kindsNumber, vertexPlace, elementPlace, parameterRow, pointRow, maskRow, elementRow, fileNumber, readingNumber, plotIn, reading}
-use Rattle.report.specs.Block.{read}
+use Rattle.report.specs.Block.{Plot, verticesIn, elementsIn, vertexBlocks, headerOptions, fieldsIn, fieldFrom, fieldAt, headerFields, vertexPlace, elementPlace, parameterRow, pointRow, maskRow, elementRow, readingNumber, plotIn}
 use Rattle.report.specs.Write.{fileOf, PointFits, FieldFits, Sound, Exact}
-use Rattle.report.proofs.Laws.Limits.{first-zero, read-few}
+use Rattle.report.proofs.Laws.Limits.{read-few}
 use Rattle.report.proofs.Laws.Listed.{length-listed}
 use Rattle.report.proofs.Laws.Write.Words.{listed-at}
+use Rattle.report.proofs.Laws.Passed.{read-fields}
 use Rattle.report.proofs.Laws.Write.Back.{same-back}
 
 -- what is so of each element of each row and of the default is so of each element of the rows
@@ -67,7 +68,7 @@ module _ (s : List ℕ) where
   field-fits j = elim (split (ltb j (fieldsIn s))) [ inl t ↦ rw t (from-fits (wordIn s (firstField + fieldSize * j)) (firstField + 1 + fieldSize * j)) | inr f ↦ rw f zero-fits ]
 
   -- the field j of the eight
-  field-of : (j : ℕ) → j < fieldPlaces → getD (headerFields s) j (Level zero64) ≡ fieldAt s j
+  pub field-of : (j : ℕ) → j < fieldPlaces → getD (headerFields s) j (Level zero64) ≡ fieldAt s j
   unfolding listed
   field-of j l =
       let e : j ≡ j * 1 + 0 = omega arith in
@@ -85,45 +86,38 @@ module _ (s : List ℕ) where
   three-fit a b c (suc (suc zero)) = float-fits c
   three-fit a b c (suc (suc (suc i))) = zero-fits
 
-  -- at most 8 fields
-  count-few : kindsNumber s ≡ 0 → fieldsIn s ≤ fieldPlaces
-  unfolding kindsNumber
-  count-few h = elim (split (leb (fieldsIn s) fieldPlaces)) [ inl t ↦ leb-true (fieldsIn s) fieldPlaces t | inr f ↦ absurd (no (rw f at h)) ]
-    where
-      no : _≡_ {A = ℕ} 11 0 → ⊥
-      no z = omega arith
+  -- a word of four bytes
+  pub word-small : ((i : ℕ) → byteAt s i < 256) → (i : ℕ) → wordIn s i < 2 ^ 32
+  unfolding wordIn
+  word-small byte i =
+      let a = byte (4 * i) in
+      let b = byte (4 * i + 1) in
+      let c = byte (4 * i + 2) in
+      let d = byte (4 * i + 3) in
+      omega arith
 
   module _ (byte : (i : ℕ) → byteAt s i < 256) (number : readingNumber s ≡ 0) where
-    word-small : (i : ℕ) → Small (wordIn s i)
-    unfolding wordIn
-    word-small i =
-        let a = byte (4 * i) in
-        let b = byte (4 * i + 1) in
-        let c = byte (4 * i + 2) in
-        let d = byte (4 * i + 3) in
-        omega arith
-
-    fields-few : fieldsIn s ≤ fieldPlaces
-    unfolding readingNumber
-    fields-few = count-few (first-zero (fileNumber s) (kindsNumber s) number .1)
+    -- every word is below 2^32
+    small : (i : ℕ) → Small (wordIn s i)
+    small = word-small byte
 
     mask-small : (v i : ℕ) → Small (getD (maskRow s v) i 0)
     unfolding maskRow
-    mask-small v zero = word-small (vertexPlace v + 12)
+    mask-small v zero = small (vertexPlace v + 12)
     mask-small v (suc i) = omega arith
 
     element-small : (b e i : ℕ) → Small (getD (elementRow s b e) i 0)
     unfolding elementRow
-    element-small b e zero = word-small (elementPlace b e)
-    element-small b e (suc zero) = word-small (elementPlace b e + 1)
-    element-small b e (suc (suc zero)) = word-small (elementPlace b e + 2)
-    element-small b e (suc (suc (suc zero))) = word-small (elementPlace b e + 3)
+    element-small b e zero = small (elementPlace b e)
+    element-small b e (suc zero) = small (elementPlace b e + 1)
+    element-small b e (suc (suc zero)) = small (elementPlace b e + 2)
+    element-small b e (suc (suc (suc zero))) = small (elementPlace b e + 3)
     element-small b e (suc (suc (suc (suc i)))) = omega arith
 
     -- what is read is exact
-    exact : Exact (plotIn s)
+    pub read-exact : Exact (plotIn s)
     unfolding plotIn parameterRow pointRow maskRow elementRow
-    exact = record {
+    read-exact = record {
       parameters-all = let l = length-listed (parameterRow s) 3 (λ j. refl) (verticesIn s) in omega arith;
       points-all = let l = length-listed (pointRow s) 3 (λ j. refl) (verticesIn s) in omega arith;
       masks-all = let l = length-listed (maskRow s) 1 (λ j. refl) (verticesIn s) in omega arith;
@@ -133,37 +127,29 @@ module _ (s : List ℕ) where
     }
 
     -- and sound
-    sound : Sound (plotIn s)
+    pub read-sound : Sound (plotIn s)
     unfolding plotIn headerOptions parameterRow pointRow
-    sound =
+    read-sound =
         let few = read-few s number in
         record {
           vertices-few = few .0;
           elements-few = few .1;
-          count-few = fields-few;
-          parameters-in = let l = exact .parameters-all in omega arith;
-          points-in = let l = exact .points-all in omega arith;
-          masks-in = let l = exact .masks-all in omega arith;
-          corners-in = let l = exact .corners-all in omega arith;
+          count-few = read-fields s number;
+          parameters-in = let l = read-exact .parameters-all in omega arith;
+          points-in = let l = read-exact .points-all in omega arith;
+          masks-in = let l = read-exact .masks-all in omega arith;
+          corners-in = let l = read-exact .corners-all in omega arith;
           lo-fits = record { x-fits = float-fits boundsPlace; y-fits = float-fits (boundsPlace + 4); z-fits = float-fits (boundsPlace + 8) };
           hi-fits = record { x-fits = float-fits (boundsPlace + 2); y-fits = float-fits (boundsPlace + 6); z-fits = float-fits (boundsPlace + 10) };
-          cells-small = (word-small cellsPlace, word-small (cellsPlace + 1), word-small (cellsPlace + 2));
-          periodic-small = word-small periodicPlace;
-          passes-small = word-small passesPlace;
-          fields-fit = λ j l. subst FieldFits (sym (field-of j (omega (arith, fields-few)))) (field-fits j);
+          cells-small = (small cellsPlace, small (cellsPlace + 1), small (cellsPlace + 2));
+          periodic-small = small periodicPlace;
+          passes-small = small passesPlace;
+          fields-fit = λ j l. subst FieldFits (sym (field-of j (omega (arith, read-fields s number)))) (field-fits j);
           parameters-fit = listed-all Fit zero64 zero-fits (parameterRow s) (λ v. three-fit (vertexPlace v) (vertexPlace v + 2) (vertexPlace v + 4)) (verticesIn s);
           points-fit = listed-all Fit zero64 zero-fits (pointRow s) (λ v. three-fit (vertexPlace v + 6) (vertexPlace v + 8) (vertexPlace v + 10)) (verticesIn s);
           masks-small = listed-all Small 0 (omega arith) (maskRow s) mask-small (verticesIn s);
           corners-small = listed-all Small 0 (omega arith) (elementRow s (1 + vertexBlocks (verticesIn s))) (element-small (1 + vertexBlocks (verticesIn s))) (elementsIn s);
         }
-
-    -- the file of what is read is read as the file is
-    pub read-again : reading (fileOf (plotIn s)) ≡ reading s
-    unfolding reading
-    read-again = same-back (plotIn s) exact sound ∙ sym whole
-      where
-        whole : reading s ≡ read (plotIn s)
-        whole = rw number
 
 -- exact plots with one file are one plot
 pub one-plot : (p q : Plot) → Sound p → Exact p → Sound q → Exact q → fileOf p ≡ fileOf q → p ≡ q

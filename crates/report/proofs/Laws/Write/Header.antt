@@ -141,7 +141,7 @@ module _ (p : Plot) (ok : Sound p) where
       )
 
   -- the place j of a field
-  place-holds : (j : ℕ) → j < fieldPlaces → Holds (fileOf p) (firstField + fieldSize * j) (placeWords (p .count) (p .fields) j)
+  pub place-holds : (j : ℕ) → j < fieldPlaces → Holds (fileOf p) (firstField + fieldSize * j) (placeWords (p .count) (p .fields) j)
   unfolding headerRecord optionsWords boundsWords
   place-holds j l =
       let places = listed (placeWords (p .count) (p .fields)) 8 in
@@ -150,7 +150,7 @@ module _ (p : Plot) (ok : Sound p) where
       (holds-right (fileOf p) firstRecord firstField start places refl header-holds)
 
   -- a place that is used
-  used-holds : (j : ℕ) → j < fieldPlaces → ltb j (p .count) ≡ true → Holds (fileOf p) (firstField + fieldSize * j) (fieldWords (getD (p .fields) j (Level zero64)))
+  pub used-holds : (j : ℕ) → j < fieldPlaces → ltb j (p .count) ≡ true → Holds (fileOf p) (firstField + fieldSize * j) (fieldWords (getD (p .fields) j (Level zero64)))
   unfolding placeWords
   used-holds j l t = rw t at (place-holds j l)
 

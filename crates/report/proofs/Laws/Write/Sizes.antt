@@ -57,7 +57,7 @@ pub elements-length : (corners : List ℕ) (first n : ℕ) → length (recordsFr
 elements-length corners first n = length-listed (λ (r : ℕ). elementRecord corners (first + r)) elementSize (λ r. element-length corners (first + r)) n
 
 -- words 0 to 126 of a block
-front-length : (kind number count : ℕ) (records : List ℕ) → length records ≤ recordRoom → length (blockFront kind number count records) ≡ firstRecord + recordRoom
+pub front-length : (kind number count : ℕ) (records : List ℕ) → length records ≤ recordRoom → length (blockFront kind number count records) ≡ firstRecord + recordRoom
 unfolding blockFront
 front-length kind number count records h =
     let a = length-append records (zeroWords (recordRoom - length records)) in

@@ -33,9 +33,16 @@ returns-3 : tie.Need-returns-3
 unfolding blockNumber
 returns-3 c = rw (le-ltb (length (c .before .before .before .before .before .before .args .s .now)) (bytesABlock * (c .before .before .before .before .before .before .args .k + 1)) (c .before .before .before .before .if1 .left), holds-by (c .before .before .before .adds-to-zero .ensures) (c .before .before .if2 .left), fails-by (c .before .is-expected .ensures) (c .if3 .taken))
 
+spare-zero-requires : tie.Need-spare-zero-requires
+spare-zero-requires c κs = search needs
+
 returns-4 : tie.Need-returns-4
 unfolding blockNumber
-returns-4 c = rw (le-ltb (length (c .before .before .before .before .before .before .args .s .now)) (bytesABlock * (c .before .before .before .before .before .before .args .k + 1)) (c .before .before .before .before .if1 .left), holds-by (c .before .before .before .adds-to-zero .ensures) (c .before .before .if2 .left), holds-by (c .before .is-expected .ensures) (c .if3 .left))
+returns-4 c = rw (le-ltb (length (c .before .before .before .before .before .before .before .before .args .s .now)) (bytesABlock * (c .before .before .before .before .before .before .before .before .args .k + 1)) (c .before .before .before .before .before .before .if1 .left), holds-by (c .before .before .before .before .before .adds-to-zero .ensures) (c .before .before .before .before .if2 .left), holds-by (c .before .before .before .is-expected .ensures) (c .before .before .if3 .left), fails-by (c .before .spare-zero .ensures) (c .if4 .taken))
+
+returns-5 : tie.Need-returns-5
+unfolding blockNumber
+returns-5 c = rw (le-ltb (length (c .before .before .before .before .before .before .before .before .args .s .now)) (bytesABlock * (c .before .before .before .before .before .before .before .before .args .k + 1)) (c .before .before .before .before .before .before .if1 .left), holds-by (c .before .before .before .before .before .adds-to-zero .ensures) (c .before .before .before .before .if2 .left), holds-by (c .before .before .before .is-expected .ensures) (c .before .before .if3 .left), holds-by (c .before .spare-zero .ensures) (c .if4 .left))
 
 pub block-number-spec : {M : Type 1} → statement M
 block-number-spec =
@@ -48,4 +55,6 @@ block-number-spec =
     returns-2
     is-expected-requires
     returns-3
-    returns-4)
+    spare-zero-requires
+    returns-4
+    returns-5)

@@ -23,7 +23,7 @@ least-requires : tie.Need-least-requires
 least-requires c κs = search needs
 
 returns : tie.Need-returns
-returns c = rw (le-leb (c .before .before .before .before .before .args .k) ((c .before .before .before .before .before .args .vertices + (verticesABlock - 1)) / verticesABlock) (omega arith)) (cc)
+returns c = (rw (le-leb (c .before .before .before .before .before .args .k) ((c .before .before .before .before .before .args .vertices + (verticesABlock - 1)) / verticesABlock) (omega arith)) (cc), omega arith)
 
 minus-requires-3 : tie.Need-minus-requires-3
 minus-requires-3 c κs = search needs
@@ -38,7 +38,7 @@ least-requires-2 : tie.Need-least-requires-2
 least-requires-2 c κs = search needs
 
 returns-2 : tie.Need-returns-2
-returns-2 c = rw (lt-leb (c .before .before .before .before .before .before .args .k) ((c .before .before .before .before .before .before .args .vertices + (verticesABlock - 1)) / verticesABlock) (omega arith)) (cc (c .before .before .before .before .before .vertex-blocks .ensures .0))
+returns-2 c = (rw (lt-leb (c .before .before .before .before .before .before .args .k) ((c .before .before .before .before .before .before .args .vertices + (verticesABlock - 1)) / verticesABlock) (omega arith)) (cc (c .before .before .before .before .before .vertex-blocks .ensures .0)), omega arith)
 
 pub count-of-spec : {M : Type 1} → statement M
 count-of-spec =

@@ -6,7 +6,8 @@ use lib.Ieee.{ofBits}
 use lib.ListN.{length-replicate}
 use Rattle.geometry.specs.Float.{zero64}
 use Rattle.report.specs.Report.{elementRoom, wordRoom, floatRoom, blank}
-use Rattle.report.proofs.Laws.Plot.{read-fields, plot-printed}
+use Rattle.report.proofs.Laws.Passed.{read-fields}
+use Rattle.report.proofs.Laws.Plot.{plot-printed}
 use Rattle.report.proofs.Laws.Counted.{run-ready}
 use borrow.Author.Needs.{needs}
 use Rattle.report.proofs.report.plot_text.Statement.{statement}

@@ -5,10 +5,10 @@ use Rattle.trial.proofs.blocks.all_edits.Statement.{statement}
 use Rattle.trial.proofs.blocks.all_edits.Tie as tie
 
 abbrev Inv-loop : tie.InvT-loop
-Inv-loop row₀ row = row ≤ 40
+Inv-loop row₀ row = row ≤ 46
 
 abbrev μ-loop : tie.MeasureT-loop
-μ-loop row₀ row = 40 - row
+μ-loop row₀ row = 46 - row
 
 loop-holds : tie.Need-loop-holds Inv-loop μ-loop
 loop-holds c = search needs
