@@ -4,15 +4,40 @@ use crate::mesh::{Answer, Call, Mesh, PASSES, Pass, Sizes};
 use crate::original::{DOC01, value};
 use crate::shell;
 use crate::wholeness::{alternating, tets};
+use std::ops::Range;
 
 const BLOCK: usize = 512;
 const VERTICES: usize = 9;
 const ELEMENTS: usize = 31;
+const PLACES: usize = 8;
 const MOST: usize = 24;
 
 type Words = [u32; 128];
 
-/// The block k of a file, or 1, 2 or 3.
+/// How many of a place's four numbers a field of this kind uses; one of unknown kind uses all.
+fn used(kind: u32) -> usize {
+    if kind == 0 { 1 } else { 4 }
+}
+
+/// The words of the header's place j that no field uses: with more than 8 fields each place has one.
+fn unused(header: &Words, j: usize) -> Range<usize> {
+    let kind = 23 + 9 * j;
+    let field = if j < header[22] as usize { 1 + 2 * used(header[kind]) } else { 0 };
+    kind + field..kind + 9
+}
+
+/// Whether a word that must be 0 is not, in a block of the expected kind and count.
+fn leftovers(words: &Words) -> bool {
+    let count = words[2] as usize;
+    let dirty = |spare: Range<usize>| words[spare].iter().any(|&w| w != 0);
+    match words[0] {
+        1 => dirty(95..127) || (0..PLACES).any(|j| dirty(unused(words, j))),
+        2 => dirty(3 + 13 * count..127),
+        _ => dirty(3 + 4 * count..127),
+    }
+}
+
+/// The block k of a file, or 1, 2, 3 or 30.
 fn block(file: &[u8], k: usize, kind: u32, count: usize) -> Result<Words, u32> {
     let bytes = file.get(BLOCK * k..BLOCK * (k + 1)).ok_or(1u32)?;
     let word = |i: usize| u32::from_le_bytes(std::array::from_fn(|b| bytes[4 * i + b]));
@@ -20,7 +45,10 @@ fn block(file: &[u8], k: usize, kind: u32, count: usize) -> Result<Words, u32> {
     if words.iter().fold(0u32, |sum, &w| sum.wrapping_add(w)) != 0 {
         return Err(2);
     }
-    if words[..3] == [kind, k as u32, count as u32] { Ok(words) } else { Err(3) }
+    if words[..3] != [kind, k as u32, count as u32] {
+        return Err(3);
+    }
+    if leftovers(&words) { Err(30) } else { Ok(words) }
 }
 
 fn float(words: &Words, i: usize) -> f64 {
@@ -50,7 +78,7 @@ fn blocks(
 /// The header's numbers beside the counts.
 fn call(header: &Words) -> Call {
     let count = header[22];
-    let places = count.min(8) as usize;
+    let places = PLACES.min(count as usize);
     Call {
         pass: Pass::Improve,
         bounds: floats(header, 5),
@@ -86,7 +114,7 @@ fn mesh(vertices: (usize, &[Words]), elements: (usize, &[Words])) -> Mesh {
     mesh
 }
 
-/// What a file holds, or 1, 2, 3 or 10.
+/// What a file holds, or 1, 2, 3, 30 or 10.
 pub fn read(file: &[u8]) -> Result<(Call, Mesh), u32> {
     let header = block(file, 0, 1, 1)?;
     let [nv, ne] = [header[3] as usize, header[4] as usize];
@@ -167,7 +195,8 @@ impl File {
     }
 }
 
-/// The block file of a mesh and a call's box, numbers and fields.
+/// The block file of a mesh and a call's box, numbers and fields. Fields past the count are left out,
+/// and so are the numbers that a field's kind does not use: no spare word is other than 0.
 pub fn write(call: &Call, mesh: &Mesh) -> Vec<u8> {
     let n = mesh.sizes;
     let mut file = File(Vec::new());
@@ -176,9 +205,10 @@ pub fn write(call: &Call, mesh: &Mesh) -> Vec<u8> {
     file.floats(&call.bounds);
     file.0.extend(call.cells);
     file.0.extend([call.periodic, call.passes, call.field_count]);
-    for (kind, numbers) in &call.fields {
-        file.0.push(*kind);
-        file.floats(numbers);
+    for &(kind, numbers) in call.fields.iter().take(PLACES.min(call.field_count as usize)) {
+        file.0.push(kind);
+        file.floats(&numbers[..used(kind)]);
+        file.floats(&[0.; 4][used(kind)..]);
     }
     for v in 0..n.vertices {
         if v % VERTICES == 0 {

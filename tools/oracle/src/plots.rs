@@ -33,10 +33,43 @@ fn odd_word(r: &mut Random) -> u32 {
     r.pick(&[0, 1, 2, 3, 8, 9, 24, 25, 4096, 4097, 0x7FF0_0000, 0x7FF8_0000, 0x8000_0000, u32::MAX])
 }
 
-/// One change: a byte, a word of a sealed block, a cut, bytes behind, blocks exchanged or twice.
+fn word(block: &[u8], i: usize) -> u32 {
+    u32::from_le_bytes(std::array::from_fn(|b| block[4 * i + b]))
+}
+
+/// The block with another word i, sealed anew.
+fn set(block: &mut [u8], i: usize, value: u32) {
+    block[4 * i..][..4].copy_from_slice(&value.to_le_bytes());
+    seal(block);
+}
+
+/// A place among the spare words of a block: their first, the one before it, the last, any.
+fn spare(block: &[u8], r: &mut Random) -> usize {
+    let (count, fields) = (word(block, 2) as usize, word(block, 22) as usize);
+    let first = match (word(block, 0), r.below(4)) {
+        // Of a place in use, a number that a level does not use.
+        (1, 0) => return 26 + 9 * r.below(fields.clamp(1, 8)) + r.below(6),
+        // From the first place that no field uses on.
+        (1, 1) => 23 + 9 * fields.min(8),
+        (1, _) => 95,
+        (2, _) => 3 + 13 * count.min(9),
+        _ => 3 + 4 * count.min(30),
+    };
+    let any = r.between(first, 126);
+    r.pick(&[first, first - 1, 126, any, any])
+}
+
+/// The block with a word left over where none is to be.
+fn leave(block: &mut [u8], r: &mut Random) {
+    let (i, any) = (spare(block, r), r.bits() as u32);
+    set(block, i, r.pick(&[1, 0x3FF0_0000, 0x8000_0000, any]));
+}
+
+/// One change: a byte, a word of a sealed block, a cut, bytes behind, blocks exchanged or left out,
+/// leftovers in spare words.
 pub fn damage(file: &mut Vec<u8>, r: &mut Random) {
     let blocks = file.len() / 512;
-    match r.below(8) {
+    match r.below(9) {
         0 if !file.is_empty() => {
             let i = r.below(file.len());
             file[i] ^= 1 << r.below(8);
@@ -57,15 +90,15 @@ pub fn damage(file: &mut Vec<u8>, r: &mut Random) {
             file.drain(512 * i..512 * (i + 1));
         }
         5 if blocks > 0 => {
-            let (i, word) = (r.below(blocks), r.below(40));
-            file[512 * i + 4 * word..][..4].copy_from_slice(&odd_word(r).to_le_bytes());
-            seal(&mut file[512 * i..512 * (i + 1)]);
+            let block = &mut file[512 * r.below(blocks)..][..512];
+            set(block, r.below(40), odd_word(r));
         }
-        _ if blocks > 0 => {
-            let (i, word) = (r.below(blocks), r.below(127));
-            file[512 * i + 4 * word + r.below(4)] ^= 1 << r.below(8);
-            seal(&mut file[512 * i..512 * (i + 1)]);
+        6 | 7 if blocks > 0 => {
+            let block = &mut file[512 * r.below(blocks)..][..512];
+            let i = r.below(127);
+            set(block, i, word(block, i) ^ 1 << r.below(32));
         }
+        _ if blocks > 0 => leave(&mut file[512 * r.below(blocks)..][..512], r),
         _ => file.push(r.bits() as u8),
     }
 }
@@ -126,17 +159,44 @@ fn every_byte(good: &[u8]) -> impl Iterator<Item = Vec<u8>> {
     changed.chain(cut)
 }
 
+/// The first good file from a seed on with a table, a full block of vertices, a level in its first
+/// place and a place that no field uses.
+fn varied(seed: u64) -> Vec<u8> {
+    let wanted = |file: &Vec<u8>| {
+        let (vertices, fields, kind) = (word(file, 3), word(file, 22), word(file, 23));
+        vertices >= 9 && (1..8).contains(&fields) && kind == 0 && !plot(file).starts_with("refused")
+    };
+    (0..).map(|i| good(seed.wrapping_add(i))).find(wanted).unwrap()
+}
+
+/// A good file with the lowest and the highest bit of each word 3 to 126 changed in turn, each time
+/// with the block sealed anew.
+fn every_word(good: &[u8]) -> impl Iterator<Item = Vec<u8>> {
+    let places = (0..good.len() / 512).flat_map(|k| (3..127).map(move |i| (k, i)));
+    places.flat_map(|place| [1, 1 << 31].map(|bit| (place, bit))).map(|((k, i), bit)| {
+        let mut file = good.to_vec();
+        let block = &mut file[512 * k..][..512];
+        set(block, i, word(block, i) ^ bit);
+        file
+    })
+}
+
 fn told(what: &str, (count, different): (u64, u64)) -> Result<(), String> {
     println!("{count} files {what}, {different} different");
     if different == 0 { Ok(()) } else { Err("the port differs from the original".to_string()) }
 }
 
-/// COUNT files from a seed, then one good file damaged at every byte and cut at every length.
+/// COUNT files from a seed, then one good file damaged at every byte and cut at every length, and
+/// with every word changed and its block sealed anew.
 pub fn report(port: Port, count: u64, seed: u64) -> Result<(), String> {
     told(&format!("from seed {seed}"), compare(port, (0..count).map(|i| file(seed, i))))?;
     told(
         "from one file, each byte changed, cut at each length",
         compare(port, every_byte(&good(seed))),
+    )?;
+    told(
+        "from one file, each word 3 to 126 changed, its block sealed anew",
+        compare(port, every_word(&varied(seed))),
     )
 }
 

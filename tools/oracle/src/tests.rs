@@ -2,13 +2,14 @@
 use crate::case::{self, Case};
 use crate::intake;
 use crate::make::{self, Scale, papers, units};
-use crate::mesh::Answer;
+use crate::mesh::{Answer, Mesh};
 use crate::original::{self, DOC01, DOC01_COUNTED, UNTOUCHED, UNTOUCHED_COUNTED};
 use crate::plot;
 use crate::plots;
 use crate::random::Random;
 use crate::text::Reader;
 use crate::unit::Unit;
+use std::collections::BTreeMap;
 
 fn answered(name: &str) -> Vec<Answer> {
     let case = make::named().into_iter().find(|c| c.name == name).unwrap();
@@ -110,12 +111,21 @@ fn counters_change_nothing() {
     }
 }
 
+fn m4() -> Case {
+    papers::cases().into_iter().find(|c| c.name == "m4").unwrap()
+}
+
+fn m4_file() -> Vec<u8> {
+    let m4 = m4();
+    plot::write(&m4.calls[0], &m4.mesh)
+}
+
+const M4_TABLE: &str = "vertices 4 elements 1\ncollapse 0 move 0 reconnect 0\nlow 0 euler 1\ninside 0 1\nelement 0 1 2 3\n";
+
 #[test]
 fn plot_of_document_01() {
-    let m4 = papers::cases().into_iter().find(|c| c.name == "m4").unwrap();
-    let file = plot::write(&m4.calls[0], &m4.mesh);
-    let table = "vertices 4 elements 1\ncollapse 0 move 0 reconnect 0\nlow 0 euler 1\ninside 0 1\nelement 0 1 2 3\n";
-    assert_eq!(plot::plot(&file), table);
+    let file = m4_file();
+    assert_eq!(plot::plot(&file), M4_TABLE);
     assert_eq!(plot::plot(&file[..file.len() - 1]), "refused 1\n");
     assert_eq!(plot::plot(&[file.as_slice(), &[0]].concat()), "refused 1\n");
     assert_eq!(plot::plot(&[]), "refused 1\n");
@@ -134,12 +144,147 @@ fn plot_of_document_01() {
     assert_eq!(changed(1024 + 12, 4, true), "refused 13\n");
 }
 
+/// Words of a block with a value each.
+type Edits<'a> = &'a [(usize, usize, u32)];
+
+/// The file with other words (block, word, value), their blocks sealed anew.
+fn edited(file: &[u8], edits: Edits) -> Vec<u8> {
+    let mut file = file.to_vec();
+    for &(k, i, value) in edits {
+        file[512 * k + 4 * i..][..4].copy_from_slice(&value.to_le_bytes());
+        plot::seal(&mut file[512 * k..512 * (k + 1)]);
+    }
+    file
+}
+
+/// The number for document 01's example with other words, 0 for a table.
+fn m4_number(edits: Edits) -> u32 {
+    plot::read(&edited(&m4_file(), edits)).err().unwrap_or_default()
+}
+
+fn refused(number: u32, file: &[u8]) {
+    assert_eq!(plot::plot(file), format!("refused {number}\n"));
+}
+
+#[test]
+fn leftovers_give_30() {
+    for (k, i, value) in [
+        (0, 95, 1),
+        (0, 126, 0x8000_0000),
+        (0, 32, 1),
+        (0, 94, 7),
+        (0, 26, 1),
+        (0, 27, 0x8000_0000),
+        (0, 31, 9),
+        (0, 22, 0),
+        (1, 55, 1),
+        (1, 126, 1),
+        (2, 7, 4),
+        (2, 126, 0x8000_0000),
+    ] {
+        refused(30, &edited(&m4_file(), &[(k, i, value)]));
+    }
+    // The last words that records use.
+    assert_eq!(plot::plot(&edited(&m4_file(), &[(0, 25, 0x3FF0_0000), (1, 54, 1)])), M4_TABLE);
+    refused(13, &edited(&m4_file(), &[(2, 6, 4)]));
+}
+
+#[test]
+fn a_full_vertex_block_has_spare_words() {
+    let mut nine = m4();
+    nine.mesh.sizes.vertices = 9;
+    nine.mesh.parameters.resize(27, 0.5);
+    nine.mesh.points.resize(27, 0.5);
+    nine.mesh.masks.resize(9, 0);
+    let file = plot::write(&nine.calls[0], &nine.mesh);
+    assert_eq!(plot::plot(&file), M4_TABLE);
+    assert_eq!(plot::plot(&edited(&file, &[(1, 119, 1)])), M4_TABLE);
+    refused(30, &edited(&file, &[(1, 120, 1)]));
+    refused(30, &edited(&file, &[(1, 126, 1)]));
+}
+
+#[test]
+fn unknown_kinds_and_many_fields() {
+    assert_eq!(m4_number(&[(0, 23, 3), (0, 26, 1), (0, 31, 9)]), 0);
+    refused(11, &edited(&m4_file(), &[(0, 23, 3), (0, 26, 1), (0, 31, 9)]));
+    assert_eq!(m4_number(&[(0, 23, 3), (0, 32, 1)]), 30);
+    refused(11, &edited(&m4_file(), &[(0, 22, 9)]));
+    refused(11, &edited(&m4_file(), &[(0, 22, 9), (0, 86, 2), (0, 87, 5), (0, 94, 5)]));
+    assert_eq!(m4_number(&[(0, 22, 9), (0, 94, 5)]), 30);
+    assert_eq!(m4_number(&[(0, 22, 9), (0, 95, 5)]), 30);
+    assert_eq!(m4_number(&[(0, 22, u32::MAX), (0, 86, 3), (0, 94, 5)]), 0);
+}
+
+#[test]
+fn leftovers_come_after_3_of_the_same_block() {
+    let file = m4_file();
+    let mut unsealed = edited(&file, &[(0, 95, 1)]);
+    unsealed[508] ^= 1;
+    refused(2, &unsealed);
+    assert_eq!(m4_number(&[(0, 2, 2), (0, 95, 1)]), 3);
+    assert_eq!(m4_number(&[(0, 3, 25)]), 10);
+    assert_eq!(m4_number(&[(0, 3, 25), (0, 95, 1)]), 30);
+    // A block's before the next block's numbers, whichever they are.
+    refused(30, &edited(&file, &[(1, 100, 1)])[..1200]);
+    assert_eq!(m4_number(&[(1, 100, 1), (2, 0, 2)]), 30);
+    assert_eq!(m4_number(&[(1, 0, 3), (2, 100, 1)]), 3);
+    // The last block's before bytes behind it, and all before 11.
+    refused(30, &[edited(&file, &[(2, 126, 1)]), vec![0; 3]].concat());
+    refused(1, &[file.clone(), vec![0; 3]].concat());
+    refused(30, &edited(&file, &[(0, 21, 17), (2, 100, 1)]));
+    let header = plot::write(&m4().calls[0], &Mesh::default());
+    refused(30, &[edited(&header, &[(0, 126, 1)]), vec![0; 512]].concat());
+    refused(1, &[header, vec![0; 512]].concat());
+}
+
+/// Each answer to document 01's example with one bit changed in a word 3 to 126 of the block k, 0 for
+/// a table, and how often it comes.
+fn answers(k: usize, bit: usize) -> Vec<(u32, u32)> {
+    let mut times = BTreeMap::new();
+    for i in 3..127 {
+        let mut file = m4_file();
+        file[512 * k + 4 * i + bit / 8] ^= 1 << (bit % 8);
+        plot::seal(&mut file[512 * k..512 * (k + 1)]);
+        let text = plot::plot(&file);
+        let number = text.strip_prefix("refused ").map_or(0, |n| n.trim().parse().unwrap());
+        *times.entry(number).or_default() += 1;
+    }
+    times.into_iter().collect()
+}
+
+#[test]
+fn each_word_of_the_example() {
+    assert_eq!(answers(0, 0), [(0, 11), (1, 1), (3, 1), (11, 3), (12, 6), (30, 102)]);
+    assert_eq!(answers(1, 0), [(0, 46), (12, 6), (30, 72)]);
+    assert_eq!(answers(2, 0), [(13, 4), (30, 120)]);
+    assert_eq!(answers(0, 31), [(0, 8), (10, 2), (11, 10), (12, 3), (30, 101)]);
+    assert_eq!(answers(1, 31), [(0, 43), (12, 6), (15, 3), (30, 72)]);
+    assert_eq!(answers(2, 31), [(13, 4), (30, 120)]);
+}
+
 #[test]
 fn block_files_are_read_back() {
     for seed in 0..500 {
         let file = plots::good(seed);
-        if let Ok((call, mesh)) = plot::read(&file) {
-            assert_eq!(plot::write(&call, &mesh), file);
+        match plot::read(&file) {
+            Ok((call, mesh)) => assert_eq!(plot::write(&call, &mesh), file),
+            Err(number) => assert_ne!(number, 30),
         }
+    }
+}
+
+#[test]
+fn nothing_is_left_over_by_the_writer() {
+    let case = m4();
+    let mut call = case.calls[0].clone();
+    call.fields = vec![(0, [0.5, f64::NAN, -0., 2.]), (1, [1.; 4]), (2, [3.; 4])];
+    for count in [0, 1, 2, 3, 4, 8, 9, u32::MAX] {
+        call.field_count = count;
+        let file = plot::write(&call, &case.mesh);
+        assert_eq!(file.len(), 3 * 512);
+        let (read, _) = plot::read(&file).unwrap();
+        assert_eq!(read.field_count, count);
+        let kinds: Vec<_> = read.fields.iter().map(|f| f.0).collect();
+        assert_eq!(kinds, [0, 1, 2, 0, 0, 0, 0, 0][..8.min(count as usize)]);
     }
 }
