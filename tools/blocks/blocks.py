@@ -18,7 +18,8 @@ The text has one thing a line; # begins a comment:
     element A B C D
 
 Numbers are decimal; floats may be nan, inf and -inf, and what `show` prints is read back to the same bits, but for the bits of a NaN.
-`make` writes what the text says, good or bad: `plot` judges it. It refuses what a block file cannot hold.
+`make` writes what the text says, good or bad: `plot` judges it. It refuses what a block file cannot hold. Spare words are 0 in what it writes.
+`show` reads a file of any size. It refuses what `plot` refuses for a block's sake, with the same number; leftovers in spare words (30) it tells by word.
 """
 import struct
 import sys
@@ -26,7 +27,12 @@ import sys
 VERTICES = 9
 ELEMENTS = 31
 PLACES = 8
+# The words of a vertex and of an element record.
+SIZES = {2: 13, 3: 4}
+# Each kind of field with its number and how many numbers it uses.
 KINDS = {"level": (0, 1), "plane": (1, 4), "ball": (2, 4)}
+# So many leftover words of a block are told one by one.
+TOLD = 8
 
 
 class Refused(Exception):
@@ -138,6 +144,30 @@ def parse(text):
     return plot
 
 
+def spare(words):
+    """The places of a block's spare words: behind its records, in the header also unused field places and numbers that a field's kind does not use."""
+    if words[0] != 1:
+        return list(range(3 + SIZES[words[0]] * words[2], 127))
+    counts = dict(KINDS.values())
+    places = []
+    for j in range(PLACES):
+        first = 23 + 9 * j
+        if j >= words[22]:
+            places += range(first, first + 9)
+        elif words[first] in counts:
+            places += range(first + 1 + 2 * counts[words[first]], first + 9)
+    return places + list(range(95, 127))
+
+
+def leftovers(words):
+    """The spare words of a block that are not 0, with their values; nothing if all are 0."""
+    left = [i for i in spare(words) if words[i]]
+    told = ["word %d is %08x" % (i, words[i]) for i in left[:TOLD]]
+    if len(left) > TOLD:
+        told.append("%d more" % (len(left) - TOLD))
+    return ", ".join(told)
+
+
 def block(data, k, kind, count):
     """The words of block k, or the number that `plot` gives for it."""
     if len(data) < 512 * (k + 1):
@@ -147,6 +177,9 @@ def block(data, k, kind, count):
         raise Refused("refused 2")
     if words[:3] != (kind, k, count):
         raise Refused("refused 3")
+    left = leftovers(words)
+    if left:
+        raise Refused("refused 30: block %d: %s" % (k, left))
     return words
 
 
@@ -154,9 +187,10 @@ def float_at(words, i, count):
     return list(struct.unpack("<%dd" % count, struct.pack("<%dI" % (2 * count), *words[i : i + 2 * count])))
 
 
-def records(data, k, kind, total, full, size):
+def records(data, k, kind, total, full):
     """The records of all blocks of a kind from block k on, and the number of the block behind them."""
     found = []
+    size = SIZES[kind]
     while len(found) < total:
         count = min(full, total - len(found))
         words = block(data, k, kind, count)
@@ -165,27 +199,34 @@ def records(data, k, kind, total, full, size):
     return found, k
 
 
-def read(data):
-    """The plot of a block file of any size, spare words aside."""
-    header = block(data, 0, 1, 1)
-    plot = Plot()
-    plot.box = float_at(header, 5, 6)
-    plot.cells = list(header[17:20])
-    plot.periodic, plot.passes, fields = header[20:23]
+def fields_in(header):
+    """The fields of a header, as far as the text has words for them."""
     counts = dict(KINDS.values())
-    for j in range(min(fields, PLACES)):
+    found = []
+    for j in range(min(header[22], PLACES)):
         kind = header[23 + 9 * j]
         if kind not in counts:
             raise Refused("field %d has the unknown kind %d" % (j, kind))
-        plot.fields.append((kind, float_at(header, 24 + 9 * j, counts[kind])))
-    if fields > PLACES:
-        raise Refused("%d fields" % fields)
-    vertices, k = records(data, 1, 2, header[3], VERTICES, 13)
-    plot.vertices = [float_at(r, 0, 6) + [r[12]] for r in vertices]
-    elements, k = records(data, k, 3, header[4], ELEMENTS, 4)
-    plot.elements = [list(r) for r in elements]
+        found.append((kind, float_at(header, 24 + 9 * j, counts[kind])))
+    if header[22] > PLACES:
+        raise Refused("%d fields" % header[22])
+    return found
+
+
+def read(data):
+    """The plot of a block file of any size. No other file has this plot, but for the bits of a NaN."""
+    header = block(data, 0, 1, 1)
+    vertices, k = records(data, 1, 2, header[3], VERTICES)
+    elements, k = records(data, k, 3, header[4], ELEMENTS)
     if len(data) > 512 * k:
         raise Refused("refused 1")
+    plot = Plot()
+    plot.box = float_at(header, 5, 6)
+    plot.cells = list(header[17:20])
+    plot.periodic, plot.passes = header[20:22]
+    plot.fields = fields_in(header)
+    plot.vertices = [float_at(r, 0, 6) + [r[12]] for r in vertices]
+    plot.elements = [list(r) for r in elements]
     return plot
 
 
