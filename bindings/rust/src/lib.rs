@@ -306,7 +306,9 @@ pub fn boundary(elements: &[[u32; 4]]) -> Result<Vec<[u32; 3]>, Refusal> {
     if number == 0 { Ok(surface) } else { Err(Refusal(number)) }
 }
 
-/// What the program `plot` prints for the bytes of a block file: the table, or a line `refused N`.
+/// What the program `plot` prints for the bytes of a block file: the table, or a line `refused N`,
+/// where N is a number that a pass gives or 1, 2, 3 or 30, those of a block: [`Refusal::reason`]
+/// has their rows. 10 stands for over 24 vertices or 24 elements.
 pub fn report(file: &[u8]) -> String {
     let mut out = vec![0; 50_000];
     // SAFETY: both pointers are those of live slices of the lengths beside them, which do not overlap.

@@ -6,9 +6,14 @@ use std::fmt;
 pub struct Refusal(pub u32);
 
 impl Refusal {
-    /// The table's row in words.
+    /// The table's row in words. The first four are those of blocks, which only the text of
+    /// [`report`](crate::report) has.
     pub fn reason(self) -> &'static str {
         match self.0 {
+            1 => "the file ends before its last block is whole, or bytes follow that block",
+            2 => "a block's words do not add to 0",
+            3 => "a block's kind, number or count is not the expected one",
+            30 => "a spare word of a block is not zero",
             10 => "too many vertices, elements or surface triples, or a slice too short",
             11 => "a bound, cells, passes, field or periodic bit out of range, or an unknown kind",
             12 => "a coordinate out of range, or a parameter outside the box",

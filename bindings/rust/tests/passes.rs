@@ -180,6 +180,10 @@ fn eight_fields_pass_and_nine_give_11() {
 #[test]
 fn a_refusal_says_its_row() {
     assert_eq!(Refusal(15).to_string(), "refused 15: a determinant not above 0");
+    assert_eq!(Refusal(30).to_string(), "refused 30: a spare word of a block is not zero");
+    for number in [1, 2, 3, 30, 10, 11, 12, 13, 14, 15, 16, 17, 22, 23] {
+        assert_ne!(Refusal(number).reason(), Refusal(0).reason());
+    }
 }
 
 /// Two flat elements on the face 0 1 2, whose apexes are close to its middle.
@@ -217,4 +221,25 @@ fn report_prints_the_sample() {
         assert_eq!(report(&file[..file.len() - 1]), "refused 1\n");
     }
     assert_eq!(report(b""), "refused 1\n");
+}
+
+#[test]
+fn report_refuses_leftovers() {
+    let root = concat!(env!("CARGO_MANIFEST_DIR"), "/../..");
+    let m4 = std::fs::read(format!("{root}/samples/m4.blocks")).unwrap();
+    // What is added to a word is taken off word 127: the block's words still add to 0.
+    let changed = |block: usize, word: usize, more: u32| {
+        let mut file = m4.clone();
+        let at = |i: usize| 512 * block + 4 * i..512 * block + 4 * i + 4;
+        let read = |i: usize| u32::from_le_bytes(m4[at(i)].try_into().unwrap());
+        file[at(word)].copy_from_slice(&read(word).wrapping_add(more).to_le_bytes());
+        file[at(127)].copy_from_slice(&read(127).wrapping_sub(more).to_le_bytes());
+        report(&file)
+    };
+    for (block, word) in [(0, 26), (0, 31), (0, 32), (0, 94), (0, 95), (0, 126), (1, 55), (2, 7)] {
+        assert_eq!(changed(block, word, 1), "refused 30\n");
+        assert_eq!(changed(block, word, 1 << 31), "refused 30\n");
+    }
+    assert_eq!(changed(2, 6, 1), "refused 13\n");
+    assert_eq!(changed(0, 2, 1), "refused 3\n");
 }
