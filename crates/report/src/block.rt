@@ -20,7 +20,7 @@ ghost use Rattle.report.specs.Format.{elementsABlock, mostVertices, most
 ghost use Rattle.report.specs.Block.{addsToZero, isExpected, blockNumber, vertexBlocks, elementBlocks, kindOf, countOf, endNumber, blocksFrom, bodyNumber, fileNumber};
 
 // n - m, and 0 where m is above n.
-pub(crate) fn minus(n: usize, m: usize) -> usize
+fn minus(n: usize, m: usize) -> usize
     ensures { λ r. ⌜ r ≡ n - m ⌝ }
 {
     if m <= n { n - m } else { 0 }

@@ -1,5 +1,4 @@
 // The spare words of a block: the test of the number 30.
-use crate::block::minus;
 use crate::bytes::word;
 use crate::format::COUNT_PLACE;
 use crate::format::ELEMENT_SIZE;
@@ -16,18 +15,17 @@ use crate::format::VERTEX_KIND;
 use crate::format::VERTEX_SIZE;
 use crate::format::WORDS_A_BLOCK;
 ghost use mathlib.Core.Path.{_≡_};
-ghost use Prim.Native.Nat.{_<_, _≤_};
+ghost use Prim.Native.Nat.{_<_, _≤_, _-_};
 ghost use Rattle.mesh.specs.Words.{numbers};
 ghost use Rattle.mesh.specs.Tests.{every};
 ghost use Rattle.report.specs.Format.{headerSize, recordSize, fieldPlaces, fieldSize};
 ghost use Rattle.report.specs.Block.{zerosFrom, restZero, usedIn, placeZero, spareZero};
 
-// Whether the n words from the word i on are zero.
-fn zeros_from(s: &[u8], i: usize, n: usize) -> bool
-    requires { ⌜ (i < 900000) × (n < 1000) ⌝ }
-    ensures { λ r. ⌜ r ≡ zerosFrom (now (s .entry)) i n ⌝ }
+// Whether the words from the word i to before the word `end` are zero.
+fn zeros_to(s: &[u8], i: usize, end: usize) -> bool
+    requires { ⌜ end < 900000 ⌝ }
+    ensures { λ r. ⌜ r ≡ zerosFrom (now (s .entry)) i (end - i) ⌝ }
 {
-    let end = i + n;
     let mut j = i;
     while j < end {
         if word(s, j) != 0 {
@@ -56,12 +54,9 @@ fn rest_zero(s: &[u8], k: usize, kind: u32, count: usize) -> bool
     requires { ⌜ (k < 1000) × (count < 1000) ⌝ }
     ensures { λ r. ⌜ r ≡ restZero (now (s .entry)) k kind count ⌝ }
 {
+    let first = WORDS_A_BLOCK * k + FIRST_RECORD;
     let used = record_size(kind) * count;
-    zeros_from(
-        s,
-        WORDS_A_BLOCK * k + FIRST_RECORD + used,
-        minus(RECORD_ROOM, used),
-    )
+    zeros_to(s, first + used, first + RECORD_ROOM)
 }
 
 // How many words of the place j its field uses: none from the number of fields on.
@@ -83,8 +78,8 @@ fn place_zero(s: &[u8], j: usize) -> bool
     requires { ⌜ j < fieldPlaces ⌝ }
     ensures { λ r. ⌜ r ≡ placeZero (now (s .entry)) j ⌝ }
 {
-    let used = used_in(s, j);
-    zeros_from(s, FIRST_FIELD + FIELD_SIZE * j + used, FIELD_SIZE - used)
+    let first = FIRST_FIELD + FIELD_SIZE * j;
+    zeros_to(s, first + used_in(s, j), first + FIELD_SIZE)
 }
 
 // Whether the spare words of all places are zero.

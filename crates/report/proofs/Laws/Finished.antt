@@ -1,4 +1,4 @@
--- A run that gives its counts had no NaN in its plot: a NaN is in no order with any number, so intake refuses it with 11 or 12, and a refusal
+-- A run that gives its counts had no NaN in its plot: a NaN is in no order with any number, so it does not pass intake, and a refusal
 -- ends the run. Assumes nothing.
 use mathlib.Core.Path.{_≡_, refl, sym, ap, subst, _∙_}
 use mathlib.Core.Bool.{Bool, true, false, cond, _&&_}
@@ -140,7 +140,7 @@ module _ (collapsed moved reconnected : ℕ) (z : Sizes) where
       let k = intake (given (lengthsOf c s) c s) in
       eqb-true k 0 (not-refused (λ n y. runSmooth g n y) s (resultOf (c .pass) c (meshOf s)) k (eqb k 0) e)
 
--- and no float of a plot with nothing past its counts is a NaN
+-- no float of an exact plot whose run gives its counts is a NaN
 pub finished-numbers : (p : Plot) → Exact p → (collapsed moved reconnected : ℕ) (z : Sizes)
     → runPasses (settingOf p) (placed p blank) .0 ≡ Finished collapsed moved reconnected z → NoNan p
 unfolding placed given meshOf

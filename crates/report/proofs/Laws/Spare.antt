@@ -1,8 +1,8 @@
 -- Spare words: what it says of each word that they are zero, and the parts of a block's test. Assumes nothing.
-use mathlib.Core.Path.{_≡_}
+use mathlib.Core.Path.{_≡_, ap}
 use mathlib.Core.Bool.{Bool, true, not, _||_}
 use mathlib.Core.List.{List}
-use Prim.Native.Nat.{ℕ, _+_, _*_, _≤_, _<_}
+use Prim.Native.Nat.{ℕ, _+_, _-_, _*_, _≤_, _<_}
 use native.Mathlib.Nat.{mul-le-mul}
 use native.Mathlib.Omega.{arith}
 use lib.Dec.{eqb}
@@ -45,3 +45,7 @@ spare-place s j h l =
 -- the records of a block take few words
 pub used-few : (w count : ℕ) → w ≤ headerSize → count < 1000 → w * count < 100000
 used-few w count h l = let b : count ≤ 1000 = omega arith in let m : w * count ≤ headerSize * 1000 = mul-le-mul h b in omega arith
+
+-- from behind the used words of a room to its end
+pub zeros-room : (s : List ℕ) (first used room : ℕ) → zerosFrom s (first + used) (first + room - (first + used)) ≡ zerosFrom s (first + used) (room - used)
+zeros-room s first used room = let e : first + room - (first + used) ≡ room - used = omega arith in ap (zerosFrom s (first + used)) e

@@ -109,7 +109,7 @@ pub one-file : (s t : List ℕ) (p : Plot) → ((i : ℕ) → byteAt s i < 256) 
     → reading s ≡ read p → reading t ≡ read p → NoNan p → s ≡ t
 one-file s t p s-byte t-byte h g ok = sym (whole-back s s-byte p h ok) ∙ whole-back t t-byte p g ok
 
--- where the plot gets its table, no float of it is a NaN
+-- two files that are read as one plot, which gets its table, are one file
 pub one-table : (s t : List ℕ) (p : Plot) → ((i : ℕ) → byteAt s i < 256) → ((i : ℕ) → byteAt t i < 256)
     → reading s ≡ read p → reading t ≡ read p → (collapsed moved reconnected : ℕ) (z : Sizes)
     → runPasses (settingOf p) (placed p blank) .0 ≡ Finished collapsed moved reconnected z → s ≡ t
