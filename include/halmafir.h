@@ -203,9 +203,9 @@ uint32_t halmafir_boundary(
          a field's kind does not use
    and 10 stands for over 24 vertices or 24 elements. Blocks are looked at one by one, each for 1, 2, 3 and 30 in this order; 10 comes right
    after the header block, and bytes that follow are looked for after the last block. A field of unknown kind uses all its numbers, and
-   with more than 8 fields there is no unused place. After 30, as after every number, the line "refused 30" is written to out: that a
-   refusal leaves buffers as they were is said of the mesh and of what else a caller hands over to be kept, not of this text. No byte past
-   the first 2,561 can change the text. */
+   with more than 8 fields there is no unused place. After every number, 30 too, the line "refused N" is written to out: that a refusal
+   leaves buffers as they were is said of the mesh and of what else a caller hands over to be kept, not of this text. No byte past the first
+   2,561 can change the text. */
 #define HALMAFIR_TEXT 50000
 size_t halmafir_report(const uint8_t *input, size_t input_len, uint8_t *out, size_t out_len);
 

@@ -19,7 +19,8 @@ The text has one thing a line; # begins a comment:
 
 Numbers are decimal; floats may be nan, inf and -inf, and what `show` prints is read back to the same bits, but for the bits of a NaN.
 `make` writes what the text says, good or bad: `plot` judges it. It refuses what a block file cannot hold. Spare words are 0 in what it writes.
-`show` reads a file of any size. It refuses what `plot` refuses for a block's sake, with the same number; leftovers in spare words (30) it tells by word.
+`show` reads a file of any size. It refuses what `plot` refuses for a block's sake, with the same number; with 30 it names the leftovers word by word,
+the first eight of a block.
 """
 import struct
 import sys
@@ -31,7 +32,7 @@ PLACES = 8
 SIZES = {2: 13, 3: 4}
 # Each kind of field with its number and how many numbers it uses.
 KINDS = {"level": (0, 1), "plane": (1, 4), "ball": (2, 4)}
-# So many leftover words of a block are told one by one.
+# At most this many leftover words of a block are named; of the others only the number is told.
 TOLD = 8
 
 

@@ -1,5 +1,5 @@
 #!/usr/bin/env python3
-"""What crates/trial must print, worked out from document 01 with Python's floats and fractions.
+"""What crates/trial must print, worked out from document 01 and request (i) of document 02 with Python's floats and fractions.
 
 Run in the repository's folder:  python3 tools/trial/expected.py > crates/trial/stdout
 The cases are the constants of crates/trial/src; nothing else of the crates is read.

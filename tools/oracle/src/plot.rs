@@ -1,4 +1,4 @@
-//! Document 01's `plot` around the original: blocks read, the three passes once, the table's text.
+//! Document 01's `plot`, with request (i) of document 02, around the original: blocks read, the three passes once, the table's text.
 use crate::intake;
 use crate::mesh::{Answer, Call, Mesh, PASSES, Pass, Sizes};
 use crate::original::{DOC01, value};
@@ -9,6 +9,9 @@ use std::ops::Range;
 const BLOCK: usize = 512;
 const VERTICES: usize = 9;
 const ELEMENTS: usize = 31;
+/// The words of a vertex and of an element record.
+pub const VERTEX_SIZE: usize = 13;
+pub const ELEMENT_SIZE: usize = 4;
 const PLACES: usize = 8;
 const MOST: usize = 24;
 
@@ -19,7 +22,7 @@ fn used(kind: u32) -> usize {
     if kind == 0 { 1 } else { 4 }
 }
 
-/// The words of the header's place j that no field uses: with more than 8 fields each place has one.
+/// The words of the header's place j that no field uses: with more than 8 fields every place has a field.
 fn unused(header: &Words, j: usize) -> Range<usize> {
     let kind = 23 + 9 * j;
     let field = if j < header[22] as usize { 1 + 2 * used(header[kind]) } else { 0 };
@@ -32,8 +35,8 @@ fn leftovers(words: &Words) -> bool {
     let dirty = |spare: Range<usize>| words[spare].iter().any(|&w| w != 0);
     match words[0] {
         1 => dirty(95..127) || (0..PLACES).any(|j| dirty(unused(words, j))),
-        2 => dirty(3 + 13 * count..127),
-        _ => dirty(3 + 4 * count..127),
+        2 => dirty(3 + VERTEX_SIZE * count..127),
+        _ => dirty(3 + ELEMENT_SIZE * count..127),
     }
 }
 
@@ -97,13 +100,13 @@ fn call(header: &Words) -> Call {
 fn mesh(vertices: (usize, &[Words]), elements: (usize, &[Words])) -> Mesh {
     let mut mesh = Mesh { elements: vec![0; 8 * MOST], ..Mesh::default() };
     for v in 0..vertices.0 {
-        let (words, i) = (&vertices.1[v / VERTICES], 3 + 13 * (v % VERTICES));
+        let (words, i) = (&vertices.1[v / VERTICES], 3 + VERTEX_SIZE * (v % VERTICES));
         mesh.parameters.extend(floats::<3>(words, i));
         mesh.points.extend(floats::<3>(words, i + 6));
         mesh.masks.push(words[i + 12]);
     }
     for e in 0..elements.0 {
-        let (words, i) = (&elements.1[e / ELEMENTS], 3 + 4 * (e % ELEMENTS));
+        let (words, i) = (&elements.1[e / ELEMENTS], 3 + ELEMENT_SIZE * (e % ELEMENTS));
         mesh.elements[4 * e..4 * e + 4].copy_from_slice(&words[i..i + 4]);
     }
     let tets: Vec<_> = (0..elements.0).map(|i| mesh.element(i)).collect();

@@ -1,6 +1,6 @@
-//! Block files, whole and damaged, on a port's `plot` and on document 01's around the original.
+//! Block files, whole, damaged and with leftovers, on a port's `plot` and on the one around the original.
 use crate::make::{self, Scale};
-use crate::plot::{plot, seal, write};
+use crate::plot::{ELEMENT_SIZE, VERTEX_SIZE, plot, seal, write};
 use crate::random::Random;
 use std::collections::BTreeMap;
 use std::io::Write;
@@ -52,8 +52,8 @@ fn spare(block: &[u8], r: &mut Random) -> usize {
         // From the first place that no field uses on.
         (1, 1) => 23 + 9 * fields.min(8),
         (1, _) => 95,
-        (2, _) => 3 + 13 * count.min(9),
-        _ => 3 + 4 * count.min(30),
+        (2, _) => 3 + VERTEX_SIZE * count.min(9),
+        _ => 3 + ELEMENT_SIZE * count.min(30),
     };
     let any = r.between(first, 126);
     r.pick(&[first, first - 1, 126, any, any])
