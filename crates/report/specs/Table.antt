@@ -1,15 +1,16 @@
 -- The text that `plot` prints (document 01, "Trial soil blocks": "Lines: sizes after the run; the three counts; bad elements and the
 -- alternating count of demand 3; per field its number and elements inside; one line an element"), as bytes. Definitions only.
 use Prim.Native.Nat.{ℕ, zero, suc, _+_, _/_, _%_}
-use mathlib.Core.Bool.{Bool, cond}
+use mathlib.Core.Path.{_≡_, refl}
+use mathlib.Core.Bool.{Bool, false, cond}
 use mathlib.Core.List.{List, [], _∷_, _++_}
 use lib.Dec.{ltb}
 use lib.IntN.{ℤ, pos, negsuc}
-use lib.Ieee.{le}
+use lib.Ieee.{Float, fin, binary64, ofBits, le}
 use lib.ListN.{length}
 use Rattle.geometry.specs.declared.point.Point.{Point}
 use Rattle.geometry.specs.declared.field.Field.{Field}
-use Rattle.geometry.specs.Float.{zero64}
+use Rattle.geometry.specs.Float.{_+₆₄_, _/₆₄_, zero64}
 use Rattle.geometry.specs.Field.{value}
 use Rattle.mesh.specs.declared.element.Tet.{Tet}
 use Rattle.mesh.specs.Words.{pointAt}
@@ -143,9 +144,25 @@ tableText t =
 
 -- ---- what is inside
 
--- the place looked at: "the element's first vertex"
+-- 4.0
+abbrev pub four : Float
+four = fin false 1 (pos 2)
+
+four-bits : ofBits binary64 0x4010_0000_0000_0000 ≡ four
+unfolding ofBits
+four-bits = refl
+
+-- "per direction the sum left to right, then divided by 4" (document 02, (ii))
+abbrev pub mean : Point → Point → Point → Point → Point
+mean a b c d = record {
+  x = ((a .x) +₆₄ (b .x) +₆₄ (c .x) +₆₄ (d .x)) /₆₄ four;
+  y = ((a .y) +₆₄ (b .y) +₆₄ (c .y) +₆₄ (d .y)) /₆₄ four;
+  z = ((a .z) +₆₄ (b .z) +₆₄ (c .z) +₆₄ (d .z)) /₆₄ four;
+}
+
+-- "the place looked at is the mean of the four points", taken in the order of the element's vertices
 unfoldable pub placeOf : List Point → Tet → Point
-placeOf points t = pointAt points (t .a)
+placeOf points t = mean (pointAt points (t .a)) (pointAt points (t .b)) (pointAt points (t .c)) (pointAt points (t .d))
 
 -- "An element is inside a field where the field's value .. is at most 0"
 abbrev pub isInside : List Point → Field → Tet → Bool

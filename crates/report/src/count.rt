@@ -1,6 +1,7 @@
 // How many elements are bad, and how many are inside a field.
 use geometry::field::Field;
 use geometry::field::value;
+use geometry::point::Point;
 use mesh::element::Tet;
 use mesh::measure::is_bad_element;
 use mesh::vertex::tet_at;
@@ -10,13 +11,35 @@ ghost use mathlib.Core.Bool.{cond};
 ghost use Prim.Native.Nat.{_<_, _≤_, _+_};
 ghost use Rattle.mesh.specs.Words.{pointsOf};
 ghost use Rattle.mesh.specs.Element.{tets};
-ghost use Rattle.report.specs.Table.{isInside, insideCount, lowCount};
+ghost use Rattle.report.specs.Table.{mean, placeOf, isInside, insideCount, lowCount};
+
+// Per direction the sum left to right, then divided by 4.
+fn mean(a: Point, b: Point, c: Point, d: Point) -> Point
+    ensures { λ r. ⌜ r ≡ mean a b c d ⌝ }
+{
+    Point {
+        x: (a.x + b.x + c.x + d.x) / 4.0,
+        y: (a.y + b.y + c.y + d.y) / 4.0,
+        z: (a.z + b.z + c.z + d.z) / 4.0,
+    }
+}
+
+// The place looked at: the mean of an element's four points, in the order of its vertices.
+fn place_of(points: &[f64], nv: usize, t: Tet) -> Point
+    ensures { λ r. ⌜ r ≡ placeOf (pointsOf nv (now (points .entry))) t ⌝ }
+{
+    let a = vertex_point(points, nv, t.a);
+    let b = vertex_point(points, nv, t.b);
+    let c = vertex_point(points, nv, t.c);
+    let d = vertex_point(points, nv, t.d);
+    mean(a, b, c, d)
+}
 
 // Whether an element is inside a field.
 fn is_inside(f: Field, points: &[f64], nv: usize, t: Tet) -> bool
     ensures { λ r. ⌜ r ≡ isInside (pointsOf nv (now (points .entry))) f t ⌝ }
 {
-    let p = vertex_point(points, nv, t.a);
+    let p = place_of(points, nv, t);
     value(f, p) <= 0.0
 }
 
