@@ -17,5 +17,6 @@ pub mod Passes
 pub mod Finished
 pub mod Plot
 pub mod Counted
+pub mod Before
 pub mod Room
 pub mod Write

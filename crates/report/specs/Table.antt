@@ -1,5 +1,6 @@
 -- The text that `plot` prints (document 01, "Trial soil blocks": "Lines: sizes after the run; the three counts; bad elements and the
--- alternating count of demand 3; per field its number and elements inside; one line an element"), as bytes. Definitions only.
+-- alternating count of demand 3; per field its number and elements inside; one line an element"; document 02, request (ii), for the place that
+-- an inside count looks at), as bytes. Definitions only.
 use Prim.Native.Nat.{ℕ, zero, suc, _+_, _/_, _%_}
 use mathlib.Core.Path.{_≡_, refl}
 use mathlib.Core.Bool.{Bool, false, cond}
@@ -152,7 +153,7 @@ four-bits : ofBits binary64 0x4010_0000_0000_0000 ≡ four
 unfolding ofBits
 four-bits = refl
 
--- "per direction the sum left to right, then divided by 4" (document 02, (ii))
+-- "per direction the sum left to right, then divided by 4" (document 02, request (ii))
 abbrev pub mean : Point → Point → Point → Point → Point
 mean a b c d = record {
   x = ((a .x) +₆₄ (b .x) +₆₄ (c .x) +₆₄ (d .x)) /₆₄ four;

@@ -13,7 +13,7 @@ ghost use Rattle.mesh.specs.Words.{pointsOf};
 ghost use Rattle.mesh.specs.Element.{tets};
 ghost use Rattle.report.specs.Table.{mean, placeOf, isInside, insideCount, lowCount};
 
-// Per direction the sum left to right, then divided by 4.
+// The mean of four points: per direction the sum left to right, then divided by 4.
 fn mean(a: Point, b: Point, c: Point, d: Point) -> Point
     ensures { λ r. ⌜ r ≡ mean a b c d ⌝ }
 {

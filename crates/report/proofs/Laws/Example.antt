@@ -1,10 +1,13 @@
--- Document 01's example of `plot`'s text, the numbers given. Assumes nothing.
+-- Document 01's example of `plot`'s text, the numbers given, and a mean that the order of its sum decides. Assumes nothing.
 use mathlib.Core.Path.{_≡_, refl}
 use mathlib.Core.List.{List, [], _∷_}
 use Prim.Native.Nat.{ℕ}
 use lib.IntN.{pos}
+use lib.Ieee.{Float, binary64, add, div, ofBits}
+use Rattle.geometry.specs.declared.point.Point.{Point}
+use Rattle.geometry.specs.Float.{_+₆₄_, _/₆₄_}
 use Rattle.mesh.specs.Element.{tet}
-use Rattle.report.specs.Table.{Table, tableText, sizesLine, countsLine, stateLine, insideLines, insideLine, elementLines, elementLine, decimal, digits, signed, vertices-word, elements-word, collapse-word, move-word, reconnect-word, low-word, euler-word, inside-word, element-word, space, line-end}
+use Rattle.report.specs.Table.{Table, tableText, sizesLine, countsLine, stateLine, insideLines, insideLine, elementLines, elementLine, decimal, digits, signed, vertices-word, elements-word, collapse-word, move-word, reconnect-word, low-word, euler-word, inside-word, element-word, space, line-end, four, mean}
 
 abbrev example : Table
 example = record {
@@ -29,3 +32,32 @@ exampleBytes =
 pub example-text : tableText example ≡ exampleBytes
 unfolding tableText sizesLine countsLine stateLine insideLines insideLine elementLines elementLine decimal digits signed vertices-word elements-word collapse-word move-word reconnect-word low-word euler-word inside-word element-word space line-end
 example-text = refl
+
+-- ---- the mean
+
+-- a point with one number in each direction
+abbrev diagonal : Float → Point
+diagonal u = record { x = u; y = u; z = u }
+
+-- 0.85
+abbrev u85 : Float
+u85 = ofBits binary64 0x3FEB_3333_3333_3333
+
+-- 0.46
+abbrev u46 : Float
+u46 = ofBits binary64 0x3FDD_70A3_D70A_3D71
+
+-- 0.25
+abbrev u25 : Float
+u25 = ofBits binary64 0x3FD0_0000_0000_0000
+
+-- 0.16
+abbrev u16 : Float
+u16 = ofBits binary64 0x3FC4_7AE1_47AE_147B
+
+-- left to right the mean is 0.43; from the last point to the first, and by pairs, it is 0.43000000000000005, the next f64
+pub mean-order : (mean (diagonal u85) (diagonal u46) (diagonal u25) (diagonal u16) ≡ diagonal (ofBits binary64 0x3FDB_851E_B851_EB85))
+    × (mean (diagonal u16) (diagonal u25) (diagonal u46) (diagonal u85) ≡ diagonal (ofBits binary64 0x3FDB_851E_B851_EB86))
+    × (((u85 +₆₄ u46) +₆₄ (u25 +₆₄ u16)) /₆₄ four ≡ ofBits binary64 0x3FDB_851E_B851_EB86)
+unfolding ofBits add div
+mean-order = (refl, refl, refl)
