@@ -18,8 +18,10 @@ use geometry::point::Point;
 use mesh::intake::Settings;
 use mesh::intake::Sizes;
 use mesh::intake::intake;
+use mesh::words::float;
 use mesh::words::put_float;
 use mesh::words::put_word;
+use mesh::words::word;
 ghost use Prim.Native.Nat.{_+_, _≤_, _<_};
 ghost use lib.ListN.{length};
 
@@ -200,7 +202,31 @@ fn fronts(
     number_of(t, a, b, c, d, e, work, floats)
 }
 
-// The number that intake gives.
+// Whether the first n words are 0.
+fn zero_words(s: &[u32], n: usize) -> bool {
+    let mut i = 0;
+    while i < n {
+        if word(s, i) != 0 {
+            return false;
+        }
+        i += 1;
+    }
+    true
+}
+
+// Whether the first n floats are 0.
+fn zero_floats(s: &[f64], n: usize) -> bool {
+    let mut i = 0;
+    while i < n {
+        if float(s, i) != 0.0 {
+            return false;
+        }
+        i += 1;
+    }
+    true
+}
+
+// The number that intake gives, and 99 where the work that it was lent is not all zeros afterwards.
 fn tried(t: Trial) -> u32 {
     let mut points = [0.0; 12300];
     let parameters = [0.0; 12300];
@@ -212,7 +238,7 @@ fn tried(t: Trial) -> u32 {
     put_points(MESH, &mut points);
     put_float(&mut points, 18, of(t.coordinate));
     fill_elements(&mut elements, t.faults, t.second);
-    fronts(
+    let given = fronts(
         t,
         &parameters,
         &points,
@@ -221,7 +247,12 @@ fn tried(t: Trial) -> u32 {
         &surface,
         &mut work,
         &mut floats,
-    )
+    );
+    if zero_words(&work, t.words) && zero_floats(&floats, t.floats) {
+        given
+    } else {
+        99
+    }
 }
 
 // Buffers exactly long enough for so many vertices and elements, with the second element 0 2 1 4.
