@@ -1,5 +1,5 @@
 #!/usr/bin/env python3
-"""What crates/trial must print, worked out from document 01 and request (i) of document 02 with Python's floats and fractions.
+"""What crates/trial must print, worked out from document 01 and requests (i) and (ii) of document 02 with Python's floats and fractions.
 
 Run in the repository's folder:  python3 tools/trial/expected.py > crates/trial/stdout
 The cases are the constants of crates/trial/src; nothing else of the crates is read.
@@ -25,6 +25,14 @@ def cases(module, name):
     body = re.search(rf"const {name}: \[u64; \d+\] = \[(.*?)\];", text, re.S).group(1)
     body = re.sub(r"//.*", "", body)
     return [int(word.replace("_", ""), 16) for word in re.findall(r"0x[0-9a-f_]+", body)]
+
+
+def float_rows(module, name):
+    """The rows of a constant of the trial program that has floats in decimals."""
+    text = open(f"crates/trial/src/{module}.rt").read()
+    body = re.search(rf"const {name}: \[\[f64; \d+\]; \d+\] = \[(.*?)\n\];", text, re.S).group(1)
+    body = re.sub(r"//.*", "", body)
+    return [[float(x) for x in row.split(",")] for row in re.findall(r"\[(.*?)\]", body)]
 
 
 def pattern(x):
@@ -199,6 +207,11 @@ def header_number(header):
     return 0
 
 
+def mean(points):
+    """Per direction the sum left to right, then divided by 4."""
+    return [(((a + b) + c) + d) / 4 for a, b, c, d in zip(*points)]
+
+
 def plotted(data):
     """What `plot` prints. A table only for meshes that the passes leave as they are."""
     number, read = read_blocks(data)
@@ -231,7 +244,8 @@ def plotted(data):
     lines.append(f"low {sum(s < 0.1 for s in scores)} euler {counts[0] - counts[1] + counts[2] - counts[3]}")
     for j in range(header[22]):
         given = header[23 + 9 * j], floats_in(header, 24 + 9 * j, 4)
-        lines.append(f"inside {j} {sum(field(*given, points[t[0]])[0] <= 0 for t in tets)}")
+        values = [field(*given, mean([points[v] for v in t]))[0] for t in tets]
+        lines.append(f"inside {j} {sum(x <= 0 for x in values)}")
     return "\n".join(lines + ["element " + " ".join(map(str, t)) for t in tets])
 
 
@@ -289,3 +303,26 @@ for i, words, v in rows(cases("blocks", "EDITS"), 3):
     data = with_word(GOOD, i, [v % 2**32, v >> 32][:words])
     print(f"block edit {i} {v:016x} {plotted(data)}")
 print("block exchanged", plotted(GOOD[:512] + GOOD[1024:] + GOOD[512:1024]))
+
+
+# The place that an inside count looks at: one element, its points of one row of heights and its parameters of another.
+
+
+def raised(heights):
+    return [[x, y, z] for (x, y), z in zip(((0.0, 0.0), (0.8, 0.0), (0.0, 0.6), (0.8, 0.6)), heights)]
+
+
+def inside_file(points, parameters, level):
+    plot = blocks.Plot()
+    plot.box = [0.0, 4.0] * 3
+    plot.fields = [(0, [level]), (1, [1.0, 1.0, 1.0, -1.4]), (2, [0.4, 0.3, 0.7, 0.1]), (2, [0.0, 0.0, 0.5, 0.01])]
+    plot.vertices = [u + p + [0] for u, p in zip(parameters, points)]
+    plot.elements = [(0, 1, 2, 3)]
+    return plot.bytes()
+
+
+HEIGHTS = float_rows("inside", "HEIGHTS")
+for row, parameters in [(i, i) for i in range(len(HEIGHTS))] + [(0, 3)]:
+    *heights, level = HEIGHTS[row]
+    print(f"inside row {row} {parameters}")
+    print(plotted(inside_file(raised(heights), raised(HEIGHTS[parameters][:4]), level)))

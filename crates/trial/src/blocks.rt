@@ -322,7 +322,7 @@ fn answered(file: &[u8], n: usize) -> u32 {
 }
 
 // Prints the text for the first n bytes.
-fn show_report(file: &[u8], n: usize) {
+pub(crate) fn show_report(file: &[u8], n: usize) {
     let mut out = [0u8; 400];
     if file.len() < n {
         return;

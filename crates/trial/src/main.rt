@@ -2,6 +2,7 @@
 mod blocks;
 mod boxes;
 mod fields;
+mod inside;
 mod intakes;
 mod meshes;
 mod ranks;
@@ -19,4 +20,5 @@ fn main() {
     words::run();
     intakes::run();
     blocks::run();
+    inside::run();
 }
