@@ -1,7 +1,7 @@
-//! Document 01's `plot`, with request (i) of document 02, around the original: blocks read, the three passes once, the table's text.
+//! Document 01's `plot`, with requests (i) and (ii) of document 02, around the original: blocks read, the three passes once, the table's text.
 use crate::intake;
 use crate::mesh::{Answer, Call, Mesh, PASSES, Pass, Sizes};
-use crate::original::{DOC01, value};
+use crate::original::{DOC01, Point, Tet, value};
 use crate::shell;
 use crate::wholeness::{alternating, tets};
 use std::ops::Range;
@@ -133,6 +133,12 @@ pub fn read(file: &[u8]) -> Result<(Call, Mesh), u32> {
     Ok((call(&header), mesh((nv, &vertices), (ne, &elements))))
 }
 
+/// The mean of an element's four points: per direction the sum left to right, then divided by 4.
+pub fn mean(mesh: &Mesh, t: Tet) -> Point {
+    let [a, b, c, d] = t.map(|v| mesh.point(v));
+    std::array::from_fn(|k| (((a[k] + b[k]) + c[k]) + d[k]) / 4.)
+}
+
 /// The table after a run with these counts.
 fn table(call: &Call, mesh: &Mesh, counts: [usize; 3]) -> String {
     let tets = tets(mesh);
@@ -142,7 +148,7 @@ fn table(call: &Call, mesh: &Mesh, counts: [usize; 3]) -> String {
     out += &format!("collapse {collapse} move {moved} reconnect {reconnect}\n");
     out += &format!("low {} euler {}\n", tets.iter().filter(bad).count(), alternating(mesh));
     for (j, &field) in call.fields.iter().enumerate() {
-        let inside = tets.iter().filter(|t| value(field, mesh.point(t[0])) <= 0.).count();
+        let inside = tets.iter().filter(|&&t| value(field, mean(mesh, t)) <= 0.).count();
         out += &format!("inside {j} {inside}\n");
     }
     for [a, b, c, d] in tets {

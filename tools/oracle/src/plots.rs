@@ -1,6 +1,7 @@
 //! Block files, whole, damaged and with leftovers, on a port's `plot` and on the one around the original.
+use crate::case::Case;
 use crate::make::{self, Scale};
-use crate::plot::{ELEMENT_SIZE, VERTEX_SIZE, plot, seal, write};
+use crate::plot::{ELEMENT_SIZE, VERTEX_SIZE, mean, plot, seal, write};
 use crate::random::Random;
 use std::collections::BTreeMap;
 use std::io::Write;
@@ -15,16 +16,46 @@ pub fn mirror(file: &[u8]) -> Vec<u8> {
     plot(file).into_bytes()
 }
 
-/// The block file of a generated case within the limits of `plot`: always the same for a seed.
+/// One more field, where there is a place for it: its value is 0 at the mean of one of the elements, or
+/// its numbers are the next ones beside that.
+fn add_field(case: &mut Case, r: &mut Random) {
+    let (call, mesh) = (&mut case.calls[0], &case.mesh);
+    let (count, n) = (call.fields.len(), mesh.sizes);
+    if count == 8 || count != call.field_count as usize || n.elements == 0 {
+        return;
+    }
+    let t = mesh.element(r.below(n.elements));
+    if t.iter().any(|&v| v >= n.vertices) {
+        return;
+    }
+    let [x, y, z] = mean(mesh, t).map(|x| r.pick(&[x, x, x.next_up(), x.next_down()]));
+    call.field_count += 1;
+    call.fields.push(match r.below(4) {
+        0 => (0, [z, 0., 0., 0.]),
+        1 => (1, [1., 0., 0., -x]),
+        2 => (1, [0., -1., 0., y]),
+        _ => (2, [x, y, z, 0.]),
+    });
+}
+
+/// The block file of a generated case within the limits of `plot`, with one more field half of the time:
+/// always the same for a seed.
 pub fn good(seed: u64) -> Vec<u8> {
+    let mut r = Random::new(!seed);
     let fits = |i: u64| {
-        let case = make::case(seed.wrapping_mul(1000).wrapping_add(i), Scale::Small);
+        let mut case = make::case(seed.wrapping_mul(1000).wrapping_add(i), Scale::Small);
         let n = case.mesh.sizes;
         let whole = case.mesh.parameters.len() >= 3 * n.vertices.min(25)
             && case.mesh.points.len() >= 3 * n.vertices.min(25)
             && case.mesh.masks.len() >= n.vertices.min(25)
             && case.mesh.elements.len() >= 4 * n.elements.min(25);
-        (n.vertices <= 24 && n.elements <= 24 && whole).then(|| write(&case.calls[0], &case.mesh))
+        if n.vertices > 24 || n.elements > 24 || !whole {
+            return None;
+        }
+        if r.one_in(2) {
+            add_field(&mut case, &mut r);
+        }
+        Some(write(&case.calls[0], &case.mesh))
     };
     (0..).find_map(fits).unwrap()
 }

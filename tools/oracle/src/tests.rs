@@ -8,7 +8,7 @@ use crate::plot;
 use crate::plots;
 use crate::random::Random;
 use crate::text::Reader;
-use crate::unit::Unit;
+use crate::unit::{Shape, Unit};
 use std::collections::BTreeMap;
 
 fn answered(name: &str) -> Vec<Answer> {
@@ -287,4 +287,61 @@ fn nothing_is_left_over_by_the_writer() {
         let kinds: Vec<_> = read.fields.iter().map(|f| f.0).collect();
         assert_eq!(kinds, [0, 1, 2, 0, 0, 0, 0, 0][..8.min(count as usize)]);
     }
+}
+
+/// An element with these heights, its parameters the points, as a plot with fields.
+fn element(z: [f64; 4], fields: &[Shape]) -> Case {
+    let mut case = m4();
+    let [a, b, c, d] = z;
+    case.mesh.points = vec![0., 0., a, 0.8, 0., b, 0., 0.6, c, 0.8, 0.6, d];
+    case.mesh.parameters = case.mesh.points.clone();
+    let call = &mut case.calls[0];
+    call.bounds = [0., 4., 0., 4., 0., 4.];
+    call.field_count = fields.len() as u32;
+    call.fields = fields.to_vec();
+    case
+}
+
+/// The counts of the table's `inside` lines, where no pass changes anything.
+fn insides(case: &Case) -> Vec<u32> {
+    let text = plot::plot(&plot::write(&case.calls[0], &case.mesh));
+    assert!(text.contains("collapse 0 move 0 reconnect 0\n"));
+    let inside = |line: &str| line.strip_prefix("inside ")?.split(' ').nth(1)?.parse().ok();
+    text.lines().filter_map(inside).collect()
+}
+
+/// How many elements are below a level: 0 or 1.
+fn below(z: [f64; 4], level: f64) -> u32 {
+    insides(&element(z, &[(0, [level, 0., 0., 0.])]))[0]
+}
+
+#[test]
+fn inside_is_by_the_mean_of_the_points() {
+    assert_eq!(insides(&m4()), [1]);
+    // The first vertex on the level.
+    let z = [0.5, 0.6, 0.7, 1.];
+    assert_eq!(below(z, 0.5), 0);
+    // The mean on the level, and one unit above it.
+    assert_eq!(below([1., 1., 1., 3.], 1.5), 1);
+    assert_eq!(below([1., 1., 1., 3.], 1.4999999999999998), 0);
+    // The mean on the level by the sum left to right, and above it by others: from the other end and
+    // by pairs; the last row by every other order and grouping but those that are the same sum.
+    assert_eq!(below([0.85, 0.46, 0.25, 0.16], 0.43), 1);
+    assert_eq!(below([0.16, 0.25, 0.46, 0.85], 0.43), 0);
+    assert_eq!(below([0.78, 0.08, 0.25, 0.53], 0.41), 1);
+    // Parameters below the level, points above it.
+    let mut low = element(z, &[(0, [0.5, 0., 0., 0.])]);
+    low.mesh.parameters.iter_mut().for_each(|x| *x /= 4.);
+    assert_eq!(insides(&low), [0]);
+    let plane = (1, [1., 1., 1., -1.4]);
+    let [about_mean, about_first] = [(2, [0.4, 0.3, 0.7, 0.1]), (2, [0., 0., 0.5, 0.01])];
+    assert_eq!(insides(&element(z, &[plane, about_mean, about_first])), [1, 1, 0]);
+}
+
+#[test]
+fn plot_of_the_samples() {
+    let m4 = include_bytes!("../../../samples/m4.blocks");
+    assert_eq!(plot::plot(m4), include_str!("../../../samples/m4.table"));
+    let sample = include_bytes!("../../../samples/plot.blocks");
+    assert_eq!(plot::plot(sample), include_str!("../../../samples/plot.table"));
 }
