@@ -16,8 +16,8 @@ pub fn mirror(file: &[u8]) -> Vec<u8> {
     plot(file).into_bytes()
 }
 
-/// One more field, where there is a place for it: its value is 0 at the mean of one of the elements, or
-/// its numbers are the next ones beside that.
+/// One more field, where there is a place for it: its value is 0 at the mean of one of the elements as
+/// given, or its numbers are the next ones beside that.
 fn add_field(case: &mut Case, r: &mut Random) {
     let (call, mesh) = (&mut case.calls[0], &case.mesh);
     let (count, n) = (call.fields.len(), mesh.sizes);
