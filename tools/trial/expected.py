@@ -1,5 +1,5 @@
 #!/usr/bin/env python3
-"""What crates/trial must print, worked out from document 01 and requests (i), (ii) and (x) of document 02 with Python's floats and fractions.
+"""What crates/trial must print, worked out from document 01 and requests (i) and (ii) of document 02 with Python's floats and fractions.
 
 Run in the repository's folder:  python3 tools/trial/expected.py > crates/trial/stdout
 The cases are the constants of crates/trial/src; nothing else of the crates is read.
@@ -242,12 +242,10 @@ def plotted(data):
     counts = [len(s) for s in simplices]
     lines = [f"vertices {len(points)} elements {len(tets)}", "collapse 0 move 0 reconnect 0"]
     lines.append(f"low {sum(s < 0.1 for s in scores)} euler {counts[0] - counts[1] + counts[2] - counts[3]}")
-    left = set(tets)
     for j in range(header[22]):
         given = header[23 + 9 * j], floats_in(header, 24 + 9 * j, 4)
-        found = {t for t in left if field(*given, mean([points[v] for v in t]))[0] <= 0}
-        left -= found
-        lines.append(f"inside {j} {len(found)}")
+        values = [field(*given, mean([points[v] for v in t]))[0] for t in tets]
+        lines.append(f"inside {j} {sum(x <= 0 for x in values)}")
     return "\n".join(lines + ["element " + " ".join(map(str, t)) for t in tets])
 
 
@@ -317,7 +315,7 @@ def raised(heights):
 def inside_file(points, parameters, level):
     plot = blocks.Plot()
     plot.box = [0.0, 4.0] * 3
-    plot.fields = [(0, [level]), (2, [0.0, 0.0, 0.5, 0.01]), (2, [0.4, 0.3, 0.7, 0.1]), (1, [-1.0, -1.0, -1.0, 2.2])]
+    plot.fields = [(0, [level]), (1, [1.0, 1.0, 1.0, -1.4]), (2, [0.4, 0.3, 0.7, 0.1]), (2, [0.0, 0.0, 0.5, 0.01])]
     plot.vertices = [u + p + [0] for u, p in zip(parameters, points)]
     plot.elements = [(0, 1, 2, 3)]
     return plot.bytes()
@@ -328,26 +326,3 @@ for row, parameters in [(i, i) for i in range(len(HEIGHTS))] + [(0, 3)]:
     *heights, level = HEIGHTS[row]
     print(f"inside row {row} {parameters}")
     print(plotted(inside_file(raised(heights), raised(HEIGHTS[parameters][:4]), level)))
-
-
-# Which field takes an element that several find inside: the six elements of a cell.
-CORNERS = [(0, 0, 0), (1, 0, 0), (1, 1, 0), (1, 1, 1), (1, 0, 1), (0, 1, 0), (0, 1, 1), (0, 0, 1)]
-CELL = [(0, 1, 2, 3), (0, 1, 3, 4), (0, 5, 3, 2), (0, 5, 6, 3), (0, 7, 4, 3), (0, 7, 3, 6)]
-
-
-def cell_file(fields):
-    plot = blocks.Plot()
-    plot.box = [0.0, 4.0] * 3
-    plot.fields = fields
-    plot.vertices = [[float(x) for x in p] * 2 + [0] for p in CORNERS]
-    plot.elements = CELL
-    return plot.bytes()
-
-
-LEVELS = float_rows("inside", "LEVELS")
-LISTS = [[(0, [z]) for z in LEVELS[row][:count]] for row, count in ((0, 0), (0, 2), (1, 3), (2, 2), (3, 8), (4, 8))]
-LISTS.append([(0, [-1.0]), (0, [0.6]), (1, [-1.0, 0.0, 0.0, 0.5])])
-LISTS.append([(1, [1.0, 0.0, 0.0, -0.5]), (1, [0.0, 1.0, 0.0, -0.5]), (1, [0.0, 0.0, 1.0, -0.5])])
-for i, fields in enumerate(LISTS):
-    print(f"inside list {i} {len(fields)}")
-    print(plotted(cell_file(fields)))

@@ -16,11 +16,7 @@ pub mod Decimal
 pub mod Passes
 pub mod Finished
 pub mod Plot
-pub mod Inside
-pub mod Count
 pub mod Counted
-pub mod Cut
 pub mod Before
-pub mod Shown
 pub mod Room
 pub mod Write

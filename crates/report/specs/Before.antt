@@ -1,7 +1,6 @@
--- The text with the inside counts of before beside today's, for the laws of Laws/Before.antt: "Only the `inside` lines change" and "The old answers
--- that change are the `inside` counts of fields above the first, which can only fall" (document 02, requests (ii) and (x)). No promise is written
--- with it. Definitions only.
-use Rattle.std.specs.Prelude.{ℕ, ◌≤◌, Bool, List, [], ◌∷◌, map, length, take}
+-- The text with document 01's inside count beside today's, for the laws of Laws/Before.antt: "Only the `inside` lines change" (document 02,
+-- request (ii)). No promise is written with it. Definitions only.
+use Rattle.std.specs.Prelude.{ℕ, Bool, cond, List, [], ◌∷◌, map, length, take, ◌==◌}
 use Rattle.std.specs.Float.Ieee.{le}
 use Rattle.geometry.specs.declared.point.Point.{Point}
 use Rattle.geometry.specs.declared.field.Field.{Field}
@@ -18,22 +17,23 @@ use Rattle.report.specs.Run.{Setting, run_passes}
 use Rattle.report.specs.Table.{Table, refused_text, table_text, inside_line, inside_count}
 use Rattle.report.specs.Report.{blank, placed, table_of, setting_of}
 
--- ---- two texts
+-- ---- lines
 
--- Two texts line by line: the same line in both, or two `inside` lines of one field whose counts `May` allows: the field, its count in the first
--- text, its count in the second.
-pub data Alike (May : ℕ → ℕ → ℕ → Type 0) : List (List ℕ) → List (List ℕ) → Type 0 where
-  no_lines : Alike May [] []
-  same_line : (l : List ℕ) {ls ms : List (List ℕ)} → Alike May ls ms → Alike May (l ∷ ls) (l ∷ ms)
-  inside-line : (field m n : ℕ) {ls ms : List (List ℕ)} → May field m n → Alike May ls ms → Alike May (inside_line field m ∷ ls) (inside_line field n ∷ ms)
+-- a byte in front of the first line
+unfoldable pub in_front : ℕ → List (List ℕ) → List (List ℕ)
+in_front b [] = (b ∷ []) ∷ []
+in_front b (l ∷ ls) = (b ∷ l) ∷ ls
 
--- any count of a field in place of another (document 02, request (ii))
-abbrev pub Anyhow : ℕ → ℕ → ℕ → Type 0
-Anyhow field old new = Unit {0}
+-- a text cut after every byte 10
+unfoldable pub lines_of : List ℕ → List (List ℕ)
+lines_of [] = []
+lines_of (b ∷ s) = cond (b == 10) ((b ∷ []) ∷ lines_of s) (in_front b (lines_of s))
 
--- "the `inside` counts of fields above the first, which can only fall" (document 02, request (x)); a count may stay
-abbrev pub Falls : ℕ → ℕ → ℕ → Type 0
-Falls field old new = (1 ≤ field) × (new ≤ old)
+-- Two texts line by line: the same line, or two `inside` lines of one field, whatever they count.
+pub data Alike : List (List ℕ) → List (List ℕ) → Type 0 where
+  no_lines : Alike [] []
+  same_line : (l : List ℕ) {ls ms : List (List ℕ)} → Alike ls ms → Alike (l ∷ ls) (l ∷ ms)
+  inside-line : (field m n : ℕ) {ls ms : List (List ℕ)} → Alike ls ms → Alike (inside_line field m ∷ ls) (inside_line field n ∷ ms)
 
 -- ---- other counts
 
@@ -80,16 +80,16 @@ pub data OneTable (counting : Counting) : List ℕ → List ℕ → Type 0 where
       → OneTable counting (table_text (with_inside (counting points elements fields) (table_of fields collapsed moved reconnected points elements)))
       (table_text (table_of fields collapsed moved reconnected points elements))
 
--- ---- the counts of before
+-- ---- the two counts
 
 -- document 01: "An element is inside a field where the field's value at the element's first vertex is at most 0"
 abbrev pub first_inside : List Point → Field → Tet → Bool
 first_inside points f t = le (value f (point_at points t.a)) zero64
 
--- document 01's counts: each field counts all that it finds inside
+-- document 01's counts, a number for each field
 unfoldable pub first_counts : Counting
 first_counts points elements fields = map (λ f. length (keep (first_inside points f) elements)) fields
 
--- request (ii)'s counts: so too, at the mean
+-- today's counts, a number for each field
 unfoldable pub mean_counts : Counting
 mean_counts points elements fields = map (inside_count points elements) fields

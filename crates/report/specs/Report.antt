@@ -14,7 +14,7 @@ use Rattle.report.specs.declared.run.Ran.TheVariants.{Finished, Stopped}
 use Rattle.report.specs.Format.{most_vertices, most_elements}
 use Rattle.report.specs.Block.{Plot, Reading, refused, read, reading}
 use Rattle.report.specs.Run.{Setting, run_passes}
-use Rattle.report.specs.Table.{Table, refused_text, table_text, inside_counts, low_count}
+use Rattle.report.specs.Table.{Table, refused_text, table_text, inside_count, low_count}
 
 -- ---- buffers
 
@@ -83,7 +83,7 @@ table_of fields collapsed moved reconnected points elements = record {
   reconnected = reconnected;
   low = low_count points elements;
   euler = alternating (length points) (map vertices_of elements);
-  inside = inside_counts points elements fields;
+  inside = map (inside_count points elements) fields;
   elements = elements;
 }
 

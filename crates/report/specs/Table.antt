@@ -1,7 +1,7 @@
 -- The text that `plot` prints (document 01, "Trial soil blocks": "Lines: sizes after the run; the three counts; bad elements and the
--- alternating count of demand 3; per field its number and elements inside; one line an element"; document 02, requests (ii) and (x), for what
--- an inside count counts), as bytes. Definitions only.
-use Rattle.std.specs.Prelude.{◌≡◌, ℕ, zero, suc, ◌+◌, ◌/◌, ◌%◌, Bool, false, cond, not, List, [], ◌∷◌, ◌++◌, length, ℤ, pos, negsuc, nat_lt, refl, Float}
+-- alternating count of demand 3; per field its number and elements inside; one line an element"; document 02, request (ii), for the place that
+-- an inside count looks at), as bytes. Definitions only.
+use Rattle.std.specs.Prelude.{◌≡◌, ℕ, zero, suc, ◌+◌, ◌/◌, ◌%◌, Bool, false, cond, List, [], ◌∷◌, ◌++◌, length, ℤ, pos, negsuc, nat_lt, refl, Float}
 use Rattle.std.specs.Float.{fin, binary64}
 use Rattle.std.specs.Float.Ieee.{of_bits, le}
 use Rattle.geometry.specs.declared.point.Point.{Point}
@@ -149,8 +149,8 @@ unfolding of_bits
 four-bits = refl
 
 -- "per direction the sum left to right, then divided by 4" (document 02, request (ii))
-abbrev pub mean_of_four : Point → Point → Point → Point → Point
-mean_of_four a b c d = record {
+abbrev pub mean : Point → Point → Point → Point → Point
+mean a b c d = record {
   x = (a.x +₆₄ b.x +₆₄ c.x +₆₄ d.x) /₆₄ four;
   y = (a.y +₆₄ b.y +₆₄ c.y +₆₄ d.y) /₆₄ four;
   z = (a.z +₆₄ b.z +₆₄ c.z +₆₄ d.z) /₆₄ four;
@@ -158,22 +158,15 @@ mean_of_four a b c d = record {
 
 -- "the place looked at is the mean of the four points", taken in the order of the element's vertices
 unfoldable pub place_of : List Point → Tet → Point
-place_of points t = mean_of_four (point_at points t.a) (point_at points t.b) (point_at points t.c) (point_at points t.d)
+place_of points t = mean (point_at points t.a) (point_at points t.b) (point_at points t.c) (point_at points t.d)
 
 -- "An element is inside a field where the field's value .. is at most 0"
 abbrev pub is_inside : List Point → Field → Tet → Bool
 is_inside points f t = le (value f (place_of points t)) zero64
 
--- "elements inside": how many of the elements given a field finds inside
+-- "per field its number and elements inside"
 unfoldable pub inside_count : List Point → List Tet → Field → ℕ
 inside_count points elements f = length (keep (is_inside points f) elements)
-
--- "The lowest field number that finds an element inside takes it, and no later one counts it" (document 02, request (x)): a count for each
--- field, the first field's among all elements, each later one's among those that are left over
-unfoldable pub inside_counts : List Point → List Tet → List Field → List ℕ
-inside_counts points elements [] = []
-inside_counts points elements (f ∷ fs) =
-    inside_count points elements f ∷ inside_counts points (keep (λ t. not (is_inside points f t)) elements) fs
 
 -- "bad elements"
 unfoldable pub low_count : List Point → List Tet → ℕ

@@ -29,7 +29,7 @@ unfoldable pub bytes_of : List ℕ → List ℕ
 bytes_of [] = []
 bytes_of (w ∷ ws) = word_bytes w ++ bytes_of ws
 
--- the sum of a list of numbers
+-- the sum of words
 unfoldable pub total_of : List ℕ → ℕ
 total_of [] = 0
 total_of (w ∷ ws) = w + total_of ws

@@ -1,9 +1,8 @@
-// How many elements are bad, and how many each field counts as inside.
-ghost use Rattle.std.specs.Prelude.{◌≡◌, ◌+◌, ◌<◌, ◌≤◌, take, if◌then◌else◌};
+// How many elements are bad, and how many are inside a field.
+ghost use Rattle.std.specs.Prelude.{◌≡◌, ◌+◌, ◌<◌, ◌≤◌, if◌then◌else◌};
 ghost use Rattle.mesh.specs.Words.{points_of};
 ghost use Rattle.mesh.specs.Element.{tets};
-ghost use Rattle.report.specs.Table.{mean_of_four, place_of, inside_counts, low_count};
-ghost use Rattle.report.specs.Lowest.{lowest_field};
+ghost use Rattle.report.specs.Table.{mean, place_of, is_inside, inside_count, low_count};
 
 use geometry::field::{Field, value};
 use geometry::point::Point;
@@ -12,8 +11,8 @@ use mesh::measure::is_bad_element;
 use mesh::vertex::{tet_at, vertex_point};
 
 // The mean of four points: per direction the sum left to right, then divided by 4.
-fn mean_of_four(a: Point, b: Point, c: Point, d: Point) -> Point
-    ensures { result ≡ mean_of_four a b c d }
+fn mean(a: Point, b: Point, c: Point, d: Point) -> Point
+    ensures { result ≡ mean a b c d }
 {
     Point {
         x: (a.x + b.x + c.x + d.x) / 4.0,
@@ -30,24 +29,15 @@ fn place_of(points: &[f64], nv: usize, t: Tet) -> Point
     let b = vertex_point(points, nv, t.b);
     let c = vertex_point(points, nv, t.c);
     let d = vertex_point(points, nv, t.d);
-    mean_of_four(a, b, c, d)
+    mean(a, b, c, d)
 }
 
-// The lowest of the first `count` field numbers that finds an element inside, and `count` where none does.
-fn lowest_field(fields: [Field; 8], count: usize, points: &[f64], nv: usize, t: Tet) -> usize
-    requires { count ≤ 8 }
-    ensures { result ≡ lowest_field (points_of nv points.now) (take count fields) t }
+// Whether an element is inside a field.
+fn is_inside(f: Field, points: &[f64], nv: usize, t: Tet) -> bool
+    ensures { result ≡ is_inside (points_of nv points.now) f t }
 {
     let p = place_of(points, nv, t);
-    let mut j = 0;
-    while j < count {
-        let f = fields[j];
-        if value(f, p) <= 0.0 {
-            return j;
-        }
-        j += 1;
-    }
-    count
+    value(f, p) <= 0.0
 }
 
 // k, and one more where the test holds.
@@ -58,29 +48,19 @@ fn add_if(k: usize, test: bool) -> usize
     if test { k + 1 } else { k }
 }
 
-// For each of the first `count` fields how many of n elements it counts: those that it finds inside and no lower one does.
-pub(crate) fn inside_counts(
-    fields: [Field; 8],
-    count: usize,
-    points: &[f64],
-    nv: usize,
-    elements: &[u32],
-    n: usize,
-) -> [usize; 8]
-    requires { (count ≤ 8) × (n < 1000000) }
-    ensures { take count result ≡ inside_counts (points_of nv points.now) (tets n elements.now) (take count fields) }
+// How many of n elements are inside a field.
+pub(crate) fn inside_count(f: Field, points: &[f64], nv: usize, elements: &[u32], n: usize) -> usize
+    requires { n < 1000000 }
+    ensures { (result ≡ inside_count (points_of nv points.now) (tets n elements.now) f) × (result ≤ n) }
 {
-    let mut counts = [0; 8];
+    let mut k = 0;
     let mut i = 0;
     while i < n {
         let t = tet_at(elements, i);
-        let j = lowest_field(fields, count, points, nv, t);
-        if j < count {
-            counts[j] += 1;
-        }
+        k = add_if(k, is_inside(f, points, nv, t));
         i += 1;
     }
-    counts
+    k
 }
 
 // How many of n elements are bad.

@@ -1,12 +1,12 @@
 // The lines of the table that are one for each field or element.
-ghost use Rattle.std.specs.Prelude.{◌+◌, ◌*◌, ◌<◌, ◌≤◌, take};
+ghost use Rattle.std.specs.Prelude.{◌+◌, ◌*◌, ◌<◌, ◌≤◌, map, take};
 ghost use Rattle.std.proofs.Math.IntN.{sub_ℕ};
 ghost use Rattle.mesh.specs.Words.{points_of};
 ghost use Rattle.mesh.specs.Element.{tets};
-ghost use Rattle.report.specs.Table.{inside_counts, low_count, inside_lines, element_lines, table_text};
+ghost use Rattle.report.specs.Table.{inside_count, low_count, inside_lines, element_lines, table_text};
 ghost use Rattle.report.specs.inside.Written.{Written};
 
-use crate::count::{inside_counts, low_count};
+use crate::count::{inside_count, low_count};
 use crate::text::{counts_line, element_line, inside_line, sizes_line, state_line};
 use geometry::field::Field;
 use mesh::vertex::tet_at;
@@ -38,13 +38,13 @@ pub(crate) fn inside_lines(
     n: usize,
 ) -> usize
     requires { (at ≤ 10000) × (count ≤ 8) × (n ≤ 1000) }
-    ensures { Written out.old out.new at result (inside_lines 0 (inside_counts (points_of nv points.now) (tets n elements.now) (take count fields))) × (result ≤ at + 340 * count) }
+    ensures { Written out.old out.new at result (inside_lines 0 (map (inside_count (points_of nv points.now) (tets n elements.now)) (take count fields))) × (result ≤ at + 340 * count) }
 {
-    let counts = inside_counts(fields, count, points, nv, elements, n);
     let mut p = at;
     let mut j = 0;
     while j < count {
-        let inside = counts[j];
+        let f = fields[j];
+        let inside = inside_count(f, points, nv, elements, n);
         p = inside_line(out, p, j, inside);
         j += 1;
     }
@@ -75,7 +75,7 @@ pub(crate) fn table_text(
       reconnected = reconnected;
       low = low_count (points_of nv points.now) (tets n elements.now);
       euler = sub_ℕ plus minus;
-      inside = inside_counts (points_of nv points.now) (tets n elements.now) (take count fields);
+      inside = map (inside_count (points_of nv points.now) (tets n elements.now)) (take count fields);
       elements = tets n elements.now;
     })) × (result ≤ 4000 + 580 * n) }
 {

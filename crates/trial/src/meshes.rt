@@ -4,7 +4,7 @@ ghost use Rattle.std.specs.Prelude.{◌<◌};
 use mesh::words::{put_float, put_word};
 
 // Points, three coordinates a row; a comment has the row of the first that it speaks of.
-const POINTS: [[f64; 3]; 27] = [
+const POINTS: [[f64; 3]; 19] = [
     // 0: a corner of side 1, and two more vertices on that side of the face 0 1 2
     [0.0, 0.0, 0.0],
     [1.0, 0.0, 0.0],
@@ -27,19 +27,10 @@ const POINTS: [[f64; 3]; 27] = [
     [0.0, 0.0, 1.0],
     [0.0, 0.0, -1.0],
     [-1.0, -1.0, -1.0],
-    // 19: the corners of a cell of side 1
-    [0.0, 0.0, 0.0],
-    [1.0, 0.0, 0.0],
-    [1.0, 1.0, 0.0],
-    [1.0, 1.0, 1.0],
-    [1.0, 0.0, 1.0],
-    [0.0, 1.0, 0.0],
-    [0.0, 1.0, 1.0],
-    [0.0, 0.0, 1.0],
 ];
 
 // Elements, four vertices a row.
-const ELEMENTS: [[u32; 4]; 14] = [
+const ELEMENTS: [[u32; 4]; 8] = [
     // 0: three on one side of the face 0 1 2
     [0, 1, 2, 3],
     [0, 1, 2, 4],
@@ -52,17 +43,10 @@ const ELEMENTS: [[u32; 4]; 14] = [
     // 6: two that meet in vertex 0
     [0, 1, 2, 3],
     [0, 4, 6, 5],
-    // 8: the six of a cell, about the diagonal 0 3; their means are at z 0.25, 0.5, 0.25, 0.5, 0.75 and 0.75
-    [0, 1, 2, 3],
-    [0, 1, 3, 4],
-    [0, 5, 3, 2],
-    [0, 5, 6, 3],
-    [0, 7, 4, 3],
-    [0, 7, 3, 6],
 ];
 
 // The meshes, four numbers a row: first point, points, first element, elements. A first one is a row of its table.
-const MESHES: [[usize; 4]; 9] = [
+const MESHES: [[usize; 4]; 8] = [
     // 0 to 6: `blocks`
     [0, 4, 0, 1],
     [0, 0, 0, 0],
@@ -73,15 +57,13 @@ const MESHES: [[usize; 4]; 9] = [
     [6, 7, 6, 2],
     // 7: the points of `intakes`
     [13, 6, 0, 0],
-    // 8: the cell of `inside`
-    [19, 8, 8, 6],
 ];
 
 // The number k of a mesh's row, and 0 past the table. All are below 100: the remainder changes none, and gives the bound.
 fn entry(mesh: usize, k: usize) -> usize
     ensures { result < 100 }
 {
-    if mesh < 9 {
+    if mesh < 8 {
         if k < 4 {
             let row = MESHES[mesh];
             return row[k] % 100;
@@ -102,12 +84,12 @@ pub(crate) fn elements(mesh: usize) -> usize {
 
 // A row of the points, and zeros past the table.
 fn point_row(i: usize) -> [f64; 3] {
-    if i < 27 { POINTS[i] } else { [0.0; 3] }
+    if i < 19 { POINTS[i] } else { [0.0; 3] }
 }
 
 // A row of the elements, and zeros past the table.
 fn element_row(i: usize) -> [u32; 4] {
-    if i < 14 { ELEMENTS[i] } else { [0; 4] }
+    if i < 8 { ELEMENTS[i] } else { [0; 4] }
 }
 
 // Writes the mesh's points to the front of a slice.

@@ -28,7 +28,6 @@ mod differ;
 #[path = "../../../bindings/rust/src/plain.rs"]
 mod halmafir;
 mod intake;
-mod layers;
 mod make;
 mod mesh;
 mod original;
@@ -69,9 +68,8 @@ oracle slowest                      the slowest calls of `improve` known, both s
 oracle slowest COUNT [SEED]         the slowest of COUNT drawn calls, the port alone
 oracle plot FILE                    what `plot` prints for a block file
 oracle plot-file SEED               write a generated block file to standard output
-oracle plots COUNT [SEED]           COUNT block files, whole and damaged, and COUNT with two to eight fields,
-                                    on the port's report function (feature bridge-plot; without it the
-                                    original stands for the port)
+oracle plots COUNT [SEED]           COUNT block files, whole and damaged, on the port's report function
+                                    (feature bridge-plot; without it the original stands for the port)
 oracle plots-program PATH COUNT [SEED]  the same through the program at PATH
 oracle wholeness COUNT [SEED]       demand 3's four statements on lists of calls of the original
 oracle store FOLDER                 write the stored answers passes.txt and units.txt";

@@ -1,4 +1,4 @@
-//! Document 01's `plot`, with requests (i), (ii) and (x) of document 02, around the original: blocks read, the three passes once, the table's text.
+//! Document 01's `plot`, with requests (i) and (ii) of document 02, around the original: blocks read, the three passes once, the table's text.
 use crate::intake;
 use crate::mesh::{Answer, Call, Mesh, PASSES, Pass, Sizes};
 use crate::original::{DOC01, Point, Tet, value};
@@ -139,48 +139,25 @@ pub fn mean(mesh: &Mesh, t: Tet) -> Point {
     std::array::from_fn(|k| (((a[k] + b[k]) + c[k]) + d[k]) / 4.)
 }
 
-/// A plot after the three passes, with the count of each.
-pub struct Ran {
-    call: Call,
-    mesh: Mesh,
-    counts: [usize; 3],
+/// The table after a run with these counts.
+fn table(call: &Call, mesh: &Mesh, counts: [usize; 3]) -> String {
+    let tets = tets(mesh);
+    let bad = |t: &&[usize; 4]| (DOC01.score)(t.map(|v| mesh.point(v))) < 0.1;
+    let [collapse, moved, reconnect] = counts;
+    let mut out = format!("vertices {} elements {}\n", mesh.sizes.vertices, tets.len());
+    out += &format!("collapse {collapse} move {moved} reconnect {reconnect}\n");
+    out += &format!("low {} euler {}\n", tets.iter().filter(bad).count(), alternating(mesh));
+    for (j, &field) in call.fields.iter().enumerate() {
+        let inside = tets.iter().filter(|&&t| value(field, mean(mesh, t)) <= 0.).count();
+        out += &format!("inside {j} {inside}\n");
+    }
+    for [a, b, c, d] in tets {
+        out += &format!("element {a} {b} {c} {d}\n");
+    }
+    out
 }
 
-impl Ran {
-    /// For each element, field by field, the value at the mean.
-    pub fn values(&self) -> Vec<Vec<f64>> {
-        let fields = |p| self.call.fields.iter().map(|&f| value(f, p)).collect();
-        tets(&self.mesh).into_iter().map(|t| fields(mean(&self.mesh, t))).collect()
-    }
-
-    /// For each field how many elements it counts: the lowest field number that finds one inside, its value
-    /// at most 0, takes it.
-    pub fn inside(&self) -> Vec<usize> {
-        let lowest = |values: &Vec<f64>| values.iter().position(|&x| x <= 0.);
-        let takers: Vec<_> = self.values().iter().map(lowest).collect();
-        let count = |j| takers.iter().filter(|&&taker| taker == Some(j)).count();
-        (0..self.call.fields.len()).map(count).collect()
-    }
-
-    fn table(&self) -> String {
-        let (mesh, tets) = (&self.mesh, tets(&self.mesh));
-        let bad = |t: &&Tet| (DOC01.score)(t.map(|v| mesh.point(v))) < 0.1;
-        let [collapse, moved, reconnect] = self.counts;
-        let mut out = format!("vertices {} elements {}\n", mesh.sizes.vertices, tets.len());
-        out += &format!("collapse {collapse} move {moved} reconnect {reconnect}\n");
-        out += &format!("low {} euler {}\n", tets.iter().filter(bad).count(), alternating(mesh));
-        for (j, inside) in self.inside().into_iter().enumerate() {
-            out += &format!("inside {j} {inside}\n");
-        }
-        for [a, b, c, d] in tets {
-            out += &format!("element {a} {b} {c} {d}\n");
-        }
-        out
-    }
-}
-
-/// Reads a file and runs the passes.
-pub fn run(file: &[u8]) -> Result<Ran, u32> {
+fn run(file: &[u8]) -> Result<String, u32> {
     let (mut call, mut mesh) = read(file)?;
     let mut counts = [0; 3];
     for pass in PASSES {
@@ -190,17 +167,12 @@ pub fn run(file: &[u8]) -> Result<Ran, u32> {
             Answer::Refused(number) => return Err(number),
         }
     }
-    Ok(Ran { call, mesh, counts })
-}
-
-/// What `plot` prints after a run.
-pub fn text(run: &Result<Ran, u32>) -> String {
-    run.as_ref().map_or_else(|number| format!("refused {number}\n"), Ran::table)
+    Ok(table(&call, &mesh, counts))
 }
 
 /// What `plot` prints for a file.
 pub fn plot(file: &[u8]) -> String {
-    text(&run(file))
+    run(file).unwrap_or_else(|number| format!("refused {number}\n"))
 }
 
 /// Sets word 127 of a block such that all words add to 0.

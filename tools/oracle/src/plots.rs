@@ -1,8 +1,7 @@
 //! Block files, whole, damaged and with leftovers, on a port's `plot` and on the one around the original.
 use crate::case::Case;
-use crate::layers;
 use crate::make::{self, Scale};
-use crate::plot::{ELEMENT_SIZE, Ran, VERTEX_SIZE, plot, run, seal, text, write};
+use crate::plot::{ELEMENT_SIZE, VERTEX_SIZE, mean, plot, seal, write};
 use crate::random::Random;
 use std::collections::BTreeMap;
 use std::io::Write;
@@ -20,54 +19,45 @@ pub fn mirror(file: &[u8]) -> Vec<u8> {
 /// One more field, where there is a place for it: its value is 0 at the mean of one of the elements as
 /// given, or its numbers are the next ones beside that.
 fn add_field(case: &mut Case, r: &mut Random) {
-    let call = &mut case.calls[0];
-    let count = call.fields.len();
-    if count == 8 || count != call.field_count as usize {
+    let (call, mesh) = (&mut case.calls[0], &case.mesh);
+    let (count, n) = (call.fields.len(), mesh.sizes);
+    if count == 8 || count != call.field_count as usize || n.elements == 0 {
         return;
     }
-    if let Some(field) = layers::through(&case.mesh, r) {
-        call.field_count += 1;
-        call.fields.push(field);
+    let t = mesh.element(r.below(n.elements));
+    if t.iter().any(|&v| v >= n.vertices) {
+        return;
     }
+    let [x, y, z] = mean(mesh, t).map(|x| r.pick(&[x, x, x.next_up(), x.next_down()]));
+    call.field_count += 1;
+    call.fields.push(match r.below(4) {
+        0 => (0, [z, 0., 0., 0.]),
+        1 => (1, [1., 0., 0., -x]),
+        2 => (1, [0., -1., 0., y]),
+        _ => (2, [x, y, z, 0.]),
+    });
 }
 
-/// A list of two to eight fields in place of the given ones, where there are elements to lay them through.
-fn set_fields(case: &mut Case, r: &mut Random) {
-    if let Some(fields) = layers::list(&case.mesh, r) {
-        case.calls[0].field_count = fields.len() as u32;
-        case.calls[0].fields = fields;
-    }
-}
-
-/// A generated case within the limits of `plot`: always the same for a seed.
-fn drawn(seed: u64) -> Case {
-    let fits = |case: &Case| {
-        let n = case.mesh.sizes;
-        n.vertices <= 24
-            && n.elements <= 24
-            && case.mesh.parameters.len() >= 3 * n.vertices
-            && case.mesh.points.len() >= 3 * n.vertices
-            && case.mesh.masks.len() >= n.vertices
-            && case.mesh.elements.len() >= 4 * n.elements
-    };
-    let case = |i: u64| make::case(seed.wrapping_mul(1000).wrapping_add(i), Scale::Small);
-    (0..).map(case).find(fits).unwrap()
-}
-
-/// The block file of a generated case, with one more field half of the time.
+/// The block file of a generated case within the limits of `plot`, with one more field half of the time:
+/// always the same for a seed.
 pub fn good(seed: u64) -> Vec<u8> {
-    let (mut case, mut r) = (drawn(seed), Random::new(!seed));
-    if r.one_in(2) {
-        add_field(&mut case, &mut r);
-    }
-    write(&case.calls[0], &case.mesh)
-}
-
-/// The block file of a generated case with a list of fields of its own.
-pub fn layered(seed: u64) -> Vec<u8> {
-    let (mut case, mut r) = (drawn(seed), Random::new(!seed));
-    set_fields(&mut case, &mut r);
-    write(&case.calls[0], &case.mesh)
+    let mut r = Random::new(!seed);
+    let fits = |i: u64| {
+        let mut case = make::case(seed.wrapping_mul(1000).wrapping_add(i), Scale::Small);
+        let n = case.mesh.sizes;
+        let whole = case.mesh.parameters.len() >= 3 * n.vertices.min(25)
+            && case.mesh.points.len() >= 3 * n.vertices.min(25)
+            && case.mesh.masks.len() >= n.vertices.min(25)
+            && case.mesh.elements.len() >= 4 * n.elements.min(25);
+        if n.vertices > 24 || n.elements > 24 || !whole {
+            return None;
+        }
+        if r.one_in(2) {
+            add_field(&mut case, &mut r);
+        }
+        Some(write(&case.calls[0], &case.mesh))
+    };
+    (0..).find_map(fits).unwrap()
 }
 
 fn odd_word(r: &mut Random) -> u32 {
@@ -156,41 +146,26 @@ fn file(seed: u64, i: u64) -> Vec<u8> {
     file
 }
 
-/// The answers met: how often a table and each number came, and what the tables' fields tell.
+/// The answers met: how often a table and each number came.
 #[derive(Default)]
-struct Met {
-    answers: BTreeMap<String, u64>,
-    layers: layers::Told,
-}
+struct Met(BTreeMap<String, u64>);
 
 impl Met {
-    fn add(&mut self, run: &Result<Ran, u32>) {
-        let name = match run {
-            Ok(_) => "table".to_string(),
-            Err(number) => format!("refused {number}"),
-        };
-        *self.answers.entry(name).or_default() += 1;
-        run.iter().for_each(|table| self.layers.add(table));
+    fn add(&mut self, text: &str) {
+        let name = if text.starts_with("refused") { text.trim_end() } else { "table" };
+        *self.0.entry(name.to_string()).or_default() += 1;
     }
 
     fn print(&self) {
-        self.answers.iter().for_each(|(name, count)| println!("{name:12} {count}"));
-        self.layers.print();
+        self.0.iter().for_each(|(name, count)| println!("{name:12} {count}"));
     }
 }
 
-/// Compares a port with the original, prints what came, and gives what the tables' fields tell; an error
-/// where a text differs.
-fn compare(
-    what: &str,
-    port: impl Fn(&[u8]) -> Vec<u8>,
-    files: impl Iterator<Item = Vec<u8>>,
-) -> Result<layers::Told, String> {
+fn compare(port: impl Fn(&[u8]) -> Vec<u8>, files: impl Iterator<Item = Vec<u8>>) -> (u64, u64) {
     let (mut met, mut count, mut different) = (Met::default(), 0, 0);
     for file in files {
-        let run = run(&file);
-        let right = text(&run);
-        met.add(&run);
+        let right = plot(&file);
+        met.add(&right);
         count += 1;
         if port(&file) != right.as_bytes() {
             different += 1;
@@ -200,12 +175,7 @@ fn compare(
         }
     }
     met.print();
-    println!("{count} files {what}, {different} different");
-    if different == 0 {
-        Ok(met.layers)
-    } else {
-        Err("the port differs from the original".to_string())
-    }
+    (count, different)
 }
 
 /// A good file with every byte changed in turn, and cut at every length.
@@ -242,30 +212,23 @@ fn every_word(good: &[u8]) -> impl Iterator<Item = Vec<u8>> {
     })
 }
 
-/// COUNT files from a seed, and COUNT whole ones with lists of fields. An error too if of 100 or more of
-/// these fewer than half give a table with two to eight fields.
-fn series(how: &str, port: impl Fn(&[u8]) -> Vec<u8>, count: u64, seed: u64) -> Result<(), String> {
-    let what = format!("from seed {seed}{how}");
-    compare(&what, &port, (0..count).map(|i| file(seed, i)))?;
-    let files = (0..count).map(|i| layered(seed.wrapping_add(i)));
-    let lists = compare(&format!("{what}, whole, with lists of fields"), &port, files)?;
-    if count >= 100 && 2 * lists.tables < count {
-        return Err("too few of the lists of fields give a table".to_string());
-    }
-    Ok(())
+fn told(what: &str, (count, different): (u64, u64)) -> Result<(), String> {
+    println!("{count} files {what}, {different} different");
+    if different == 0 { Ok(()) } else { Err("the port differs from the original".to_string()) }
 }
 
-/// Both series of COUNT files, then one good file damaged at every byte and cut at every length, and with
-/// every word changed and its block sealed anew.
+/// COUNT files from a seed, then one good file damaged at every byte and cut at every length, and
+/// with every word changed and its block sealed anew.
 pub fn report(port: Port, count: u64, seed: u64) -> Result<(), String> {
-    series("", port, count, seed)?;
-    compare("from one file, each byte changed, cut at each length", port, every_byte(&good(seed)))?;
-    compare(
-        "from one file, each word 3 to 126 changed, its block sealed anew",
-        port,
-        every_word(&varied(seed)),
+    told(&format!("from seed {seed}"), compare(port, (0..count).map(|i| file(seed, i))))?;
+    told(
+        "from one file, each byte changed, cut at each length",
+        compare(port, every_byte(&good(seed))),
     )?;
-    Ok(())
+    told(
+        "from one file, each word 3 to 126 changed, its block sealed anew",
+        compare(port, every_word(&varied(seed))),
+    )
 }
 
 /// The program at a path as port.
@@ -281,7 +244,11 @@ fn program(path: &str, input: &[u8]) -> Vec<u8> {
     if out.status.success() { out.stdout } else { b"the program failed".to_vec() }
 }
 
-/// Both series of COUNT files through a program's standard input and output.
+/// The same files through a program's standard input and output.
 pub fn report_program(path: &str, count: u64, seed: u64) -> Result<(), String> {
-    series(&format!(" through {path}"), |input| program(path, input), count, seed)
+    let port = |input: &[u8]| program(path, input);
+    told(
+        &format!("from seed {seed} through {path}"),
+        compare(port, (0..count).map(|i| file(seed, i))),
+    )
 }

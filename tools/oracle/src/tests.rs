@@ -1,8 +1,6 @@
 //! The oracle's own trials: document 01's vectors, the text form, the builds beside each other.
 use crate::case::{self, Case};
 use crate::intake;
-use crate::layers;
-use crate::make::block::Block;
 use crate::make::{self, Scale, papers, units};
 use crate::mesh::{Answer, Mesh};
 use crate::original::{self, DOC01, DOC01_COUNTED, UNTOUCHED, UNTOUCHED_COUNTED};
@@ -337,75 +335,7 @@ fn inside_is_by_the_mean_of_the_points() {
     assert_eq!(insides(&low), [0]);
     let plane = (1, [1., 1., 1., -1.4]);
     let [about_mean, about_first] = [(2, [0.4, 0.3, 0.7, 0.1]), (2, [0., 0., 0.5, 0.01])];
-    for (field, count) in [(plane, 1), (about_mean, 1), (about_first, 0)] {
-        assert_eq!(insides(&element(z, &[field])), [count]);
-    }
-}
-
-/// The six elements of one cell of side 1 in a box to 2, as a plot with fields.
-fn cube(fields: &[Shape]) -> Case {
-    let mut case = m4();
-    case.mesh = papers::mesh(&Block::grid([1, 1, 1]));
-    let call = &mut case.calls[0];
-    call.bounds = [0., 2., 0., 2., 0., 2.];
-    call.field_count = fields.len() as u32;
-    call.fields = fields.to_vec();
-    case
-}
-
-/// The counts of the cube's `inside` lines under levels.
-fn levels(heights: &[f64]) -> Vec<u32> {
-    let fields: Vec<_> = heights.iter().map(|&z| (0, [z, 0., 0., 0.])).collect();
-    insides(&cube(&fields))
-}
-
-#[test]
-fn the_lowest_field_takes_an_element() {
-    // The means of the six are at z .25 .25 .5 .5 .75 .75.
-    assert_eq!(levels(&[0.5, 0.5]), [4, 0]);
-    assert_eq!(levels(&[0.3, 0.6, 0.9]), [2, 2, 2]);
-    assert_eq!(levels(&[0.9, 0.3]), [6, 0]);
-    let eight = [0.05, 0.15, 0.25, 0.35, 0.45, 0.55, 0.65, 0.75];
-    assert_eq!(levels(&eight), [0, 0, 2, 0, 0, 2, 0, 2]);
-    let mixed = [(0, [-1., 0., 0., 0.]), (0, [0.6, 0., 0., 0.]), (1, [-1., 0., 0., 0.5])];
-    assert_eq!(insides(&cube(&mixed)), [0, 4, 1]);
-    let planes = [(1, [1., 0., 0., -0.5]), (1, [0., 1., 0., -0.5]), (1, [0., 0., 1., -0.5])];
-    assert_eq!(insides(&cube(&planes)), [4, 2, 0]);
-    // No field, one field, and eight of which the last alone finds any.
-    assert_eq!(levels(&[]), []);
-    assert_eq!(levels(&[0.5]), [4]);
-    assert_eq!(levels(&[0., 0., 0., 0., 0., 0., 0., 1.]), [0, 0, 0, 0, 0, 0, 0, 6]);
-    // Eight that find all, and two with one or six between that find none.
-    assert_eq!(levels(&[1.; 8]), [6, 0, 0, 0, 0, 0, 0, 0]);
-    assert_eq!(levels(&[0.5, 0., 0.75]), [4, 0, 2]);
-    assert_eq!(levels(&[0.5, 0., 0., 0., 0., 0., 0., 0.75]), [4, 0, 0, 0, 0, 0, 0, 2]);
-}
-
-#[test]
-fn lists_of_fields_tell_other_rules_apart() {
-    let mut told = layers::Told::default();
-    for seed in 0..300 {
-        plot::run(&plots::layered(seed)).iter().for_each(|table| told.add(table));
-    }
-    assert!(told.tables >= 150);
-    assert!(told.changed.iter().all(|&(_, tables)| 10 * tables >= told.tables));
-}
-
-const NOT_FINITE: [f64; 3] = [f64::NAN, f64::INFINITY, f64::NEG_INFINITY];
-
-/// A level's c, a plane's n and d, a ball's c and r: so a NaN among a field's numbers never reaches the
-/// inside test.
-#[test]
-fn a_field_that_is_not_finite_is_refused() {
-    for (kind, used) in [(0, 1), (1, 4), (2, 4)] {
-        assert_eq!(insides(&cube(&[(kind, [1.; 4])])).len(), 1);
-        for (k, number) in (0..used).flat_map(|k| NOT_FINITE.map(|number| (k, number))) {
-            let mut numbers = [1.; 4];
-            numbers[k] = number;
-            let case = cube(&[(kind, numbers)]);
-            refused(11, &plot::write(&case.calls[0], &case.mesh));
-        }
-    }
+    assert_eq!(insides(&element(z, &[plane, about_mean, about_first])), [1, 1, 0]);
 }
 
 #[test]

@@ -25,7 +25,7 @@ use Rattle.repair.proofs.Laws.Flip.Pass.{flip-keeps}
 use Rattle.report.specs.declared.run.Ran.{Ran}
 use Rattle.report.specs.declared.run.Ran.TheVariants.{Finished, Stopped}
 use Rattle.report.specs.Run.{Setting, call_in, after, called, run_flip, run_smooth, run_passes, sizes_left}
-use Rattle.report.specs.Table.{low_count, inside_counts, table_text, refused_text}
+use Rattle.report.specs.Table.{low_count, inside_count, table_text, refused_text}
 use Rattle.report.specs.inside.Written.{Written, Ready}
 use Rattle.report.specs.Report.{table_of, printed}
 use Rattle.report.proofs.Laws.Passes.{step_room}
@@ -102,7 +102,7 @@ pub table-written : (fs : List Field) (collapsed moved reconnected nv n : ℕ) (
       reconnected = reconnected;
       low = low_count (points_of nv p) (tets n els);
       euler = sub_ℕ (c.vertices + c.triangles) (c.edges + c.elements);
-      inside = inside_counts (points_of nv p) (tets n els) fs;
+      inside = map (inside_count (points_of nv p) (tets n els)) fs;
       elements = tets n els;
     }))
     → Written old new 0 r (table_text (table_of fs collapsed moved reconnected (points_of nv p) (tets n els)))
@@ -118,7 +118,7 @@ table-written fs collapsed moved reconnected nv n p els c {old} {new} {r} P h =
       reconnected = reconnected;
       low = low_count (points_of nv p) ts;
       euler = e i;
-      inside = inside_counts (points_of nv p) ts fs;
+      inside = map (inside_count (points_of nv p) ts) fs;
       elements = ts;
     }))
 

@@ -1,33 +1,31 @@
 -- Decimal digits read back give the number. Assumes nothing.
-use Rattle.std.proofs.Common.{◌≡◌, ℕ, zero, suc, ◌+◌, ◌-◌, ◌*◌, ◌/◌, ◌%◌, ◌<◌, ltb, List, [], ◌∷◌, ◌++◌, sym, ap, ◌∙◌, inl, inr, append_assoc, append-nil, arith, ltb-false, ne_eqb}
+use Rattle.std.proofs.Common.{◌≡◌, ℕ, zero, suc, ◌+◌, ◌-◌, ◌*◌, ◌/◌, ◌%◌, ◌<◌, ltb, List, [], ◌∷◌, ◌++◌, refl, ◌∙◌, inl, inr, arith, ltb-false}
 use Rattle.mesh.proofs.Laws.Bools.{split}
 use Rattle.report.specs.Table.{digits, decimal}
-use Rattle.report.specs.Shown.{last_number}
 
--- one digit more: it is no space and no line's end
-digit-read : (a d n : ℕ) (l : List ℕ) → 10 * a + d ≡ n → last_number a ((48 + d) ∷ l) ≡ last_number n l
-unfolding last_number
-digit-read a d n l e =
-    let f : 10 * a + (48 + d - 48) ≡ n = omega arith in
-    rw (ne_eqb (48 + d) 32 (λ z. omega arith), ne_eqb (48 + d) 10 (λ z. omega arith)) (ap (λ (k : ℕ). last_number k l) f)
+-- the number that digits stand for, behind those that stand for a
+unfoldable pub number_from : ℕ → List ℕ → ℕ
+number_from a [] = a
+number_from a (d ∷ ds) = number_from (10 * a + (d - 48)) ds
 
--- the digits of n are read as n
-digits-read : (k n : ℕ) (l : List ℕ) → n < k → last_number 0 (digits k n ++ l) ≡ last_number n l
-unfolding digits
-digits-read zero n l h = absurd (omega arith)
-digits-read (suc k) n l h = elim (split (ltb n 10)) [
-  | inl t ↦ rw t (digit-read 0 n n l (omega arith))
-  | inr f ↦ (let g = ltb-false n 10 f in
-      rw (f, append_assoc (digits k (n / 10)) ((48 + n % 10) ∷ []) l)
-      (digits-read k (n / 10) ((48 + n % 10) ∷ l) (omega arith) ∙ digit-read (n / 10) (n % 10) n l (omega arith)))
+-- one more digit
+number-last : (a : ℕ) (ds : List ℕ) (d : ℕ) → number_from a (ds ++ (d ∷ [])) ≡ 10 * number_from a ds + (d - 48)
+unfolding number_from
+number-last a [] d = refl
+number-last a (c ∷ ds) d = number-last (10 * a + (c - 48)) ds d
+
+digits_number : (k n : ℕ) → n < k → number_from 0 (digits k n) ≡ n
+unfolding digits number_from
+digits_number zero n h = absurd (never n h)
+  where
+    never : (n : ℕ) → n < 0 → ⊥
+    never n h = omega arith
+digits_number (suc k) n h = elim (split (ltb n 10)) [
+  | inl t ↦ rw t (omega arith)
+  | inr f ↦ (let g = ltb-false n 10 f in let r = digits_number k (n / 10) (omega arith) in rw f (number-last 0 (digits k (n / 10)) (48 + n % 10) ∙ (rw r (omega arith))))
 ]
 
--- a number is read as it was printed
-pub decimal-read : (n : ℕ) (l : List ℕ) → last_number 0 (decimal n ++ l) ≡ last_number n l
-unfolding decimal
-decimal-read n l = digits-read (suc n) n l (omega arith)
-
 -- the digits of n stand for n
-pub decimal-number : (n : ℕ) → last_number 0 (decimal n) ≡ n
-unfolding last_number
-decimal-number n = ap (last_number 0) (sym (append-nil (decimal n))) ∙ decimal-read n []
+pub decimal-number : (n : ℕ) → number_from 0 (decimal n) ≡ n
+unfolding decimal
+decimal-number n = digits_number (suc n) n (omega arith)

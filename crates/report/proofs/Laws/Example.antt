@@ -4,7 +4,7 @@ use lib.Ieee.{Float, binary64, add, div, of_bits}
 use Rattle.geometry.specs.declared.point.Point.{Point}
 use Rattle.geometry.specs.Float.{◌+₆₄◌, ◌/₆₄◌}
 use Rattle.mesh.specs.Element.{tet}
-use Rattle.report.specs.Table.{Table, table_text, sizes_line, counts_line, state_line, inside_lines, inside_line, element_lines, element_line, decimal, digits, signed, vertices_word, elements_word, collapse_word, move_word, reconnect_word, low_word, euler_word, inside_word, element_word, space, line_end, four, mean_of_four}
+use Rattle.report.specs.Table.{Table, table_text, sizes_line, counts_line, state_line, inside_lines, inside_line, element_lines, element_line, decimal, digits, signed, vertices_word, elements_word, collapse_word, move_word, reconnect_word, low_word, euler_word, inside_word, element_word, space, line_end, four, mean}
 
 abbrev example : Table
 example = record {
@@ -53,8 +53,8 @@ abbrev u16 : Float
 u16 = of_bits binary64 0x3FC4_7AE1_47AE_147B
 
 -- left to right the mean is 0.43; from the last point to the first, and by pairs, it is 0.43000000000000005, the next f64
-pub mean-order : (mean_of_four (diagonal u85) (diagonal u46) (diagonal u25) (diagonal u16) ≡ diagonal (of_bits binary64 0x3FDB_851E_B851_EB85))
-    × (mean_of_four (diagonal u16) (diagonal u25) (diagonal u46) (diagonal u85) ≡ diagonal (of_bits binary64 0x3FDB_851E_B851_EB86))
+pub mean-order : (mean (diagonal u85) (diagonal u46) (diagonal u25) (diagonal u16) ≡ diagonal (of_bits binary64 0x3FDB_851E_B851_EB85))
+    × (mean (diagonal u16) (diagonal u25) (diagonal u46) (diagonal u85) ≡ diagonal (of_bits binary64 0x3FDB_851E_B851_EB86))
     × (((u85 +₆₄ u46) +₆₄ (u25 +₆₄ u16)) /₆₄ four ≡ of_bits binary64 0x3FDB_851E_B851_EB86)
 unfolding of_bits add div
 mean-order = (refl, refl, refl)

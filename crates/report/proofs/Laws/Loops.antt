@@ -1,5 +1,8 @@
 -- Elements and fields one by one: counts and lines. Assumes nothing.
-use Rattle.std.proofs.Common.{◌≡◌, ℕ, zero, suc, ◌+◌, ◌<◌, Bool, true, false, cond, List, [], ◌∷◌, ◌++◌, length, get_or, take, drop, sym, refl, ap, ◌∙◌, subst, inl, inr, append_assoc, append-nil, add-one, arith, length-append, length-take-le, take-suc}
+use Rattle.std.proofs.Common.{◌≡◌, ℕ, zero, suc, ◌+◌, ◌<◌, Bool, true, false, cond, List, [], ◌∷◌, ◌++◌, map, length, get_or, take, drop, sym, refl, ap, ◌∙◌, subst, inl, inr, append_assoc, append-nil, add-one, arith, length-append, length-take-le, take-suc}
+use mathlib.Core.List.{map-append}
+use lib.ListN.{length-map}
+use Rattle.geometry.specs.declared.field.Field.{Field}
 use Rattle.mesh.specs.declared.element.Tet.{Tet}
 use Rattle.mesh.specs.Complex.{keep}
 use Rattle.mesh.specs.Element.{tet, tets}
@@ -54,11 +57,11 @@ fields-last j (m ∷ ns) n =
     ∙ sym (append_assoc (inside_line j m) (inside_lines (j + 1) ns) (inside_line (j + suc (length ns)) n))
 
 -- one more field's line
-pub inside-more : {o m n : List ℕ} {at p q : ℕ} (counts : List ℕ) (j r : ℕ) → j < length counts → r ≡ get_or counts j 0
-    → Written o m at p (inside_lines 0 (take j counts)) → Written m n p q (inside_line j r) → Written o n at q (inside_lines 0 (take (j + 1) counts))
-inside-more {o} {m} {n} {at} {p} {q} counts j r h e w u =
-    let front = take j counts in
-    let long : 0 + length front ≡ j = let b = length-take-le j counts (omega arith) in omega arith in
-    let next : take (j + 1) counts ≡ front ++ (r ∷ []) = rw add-one (take-suc counts j 0 h ∙ ap (λ (k : ℕ). front ++ (k ∷ [])) (sym e)) in
-    let text : inside_lines 0 front ++ inside_line j r ≡ inside_lines 0 (take (j + 1) counts) = sym (ap (inside_lines 0) next ∙ (fields-last 0 front r ∙ ap (λ (k : ℕ). inside_lines 0 front ++ inside_line k r) long)) in
-    subst (λ (l : List ℕ). Written o n at q l) text (written_then {a = inside_lines 0 front} {b = inside_line j r} w u)
+pub inside-more : {o m n : List ℕ} {at p q : ℕ} (g : Field → ℕ) (fields : List Field) (d : Field) (j r : ℕ) → j < length fields → r ≡ g (get_or fields j d)
+    → Written o m at p (inside_lines 0 (map g (take j fields))) → Written m n p q (inside_line j r) → Written o n at q (inside_lines 0 (map g (take (j + 1) fields)))
+inside-more {o} {m} {n} {at} {p} {q} g fields d j r h e w u =
+    let front = take j fields in
+    let long : 0 + length (map g front) ≡ j = let a = length-map front g in let b = length-take-le j fields (omega arith) in omega arith in
+    let counts : map g (take (j + 1) fields) ≡ map g front ++ (r ∷ []) = rw add-one (ap (map g) (take-suc fields j d h) ∙ (map-append g front (get_or fields j d ∷ []) ∙ ap (λ (k : ℕ). map g front ++ (k ∷ [])) (sym e))) in
+    let text : inside_lines 0 (map g front) ++ inside_line j r ≡ inside_lines 0 (map g (take (j + 1) fields)) = sym (ap (inside_lines 0) counts ∙ (fields-last 0 (map g front) r ∙ ap (λ (k : ℕ). inside_lines 0 (map g front) ++ inside_line k r) long)) in
+    subst (λ (l : List ℕ). Written o n at q l) text (written_then {a = inside_lines 0 (map g front)} {b = inside_line j r} w u)

@@ -25,11 +25,11 @@ reaches m j e x h =
     (subst (λ (z : ℕ). z < 2 ^ 2098 * down e) x
     (subst (λ (z : ℕ). m * up e * 2 ^ 1074 < z) (mul_right_comm (2 ^ 1024) (down e) (2 ^ 1074)) (mul-lt-mul_of_pos_right h (pow_pos 1074))))
 
-place-of : (m : ℕ) (e : ℤ) → m < 2 ^ 53 → down e ≤ 2 ^ 1074 → m * up e < 2 ^ 1024 * down e → Place m e
-place-of m (pos a) s d t =
+place_of : (m : ℕ) (e : ℤ) → m < 2 ^ 53 → down e ≤ 2 ^ 1074 → m * up e < 2 ^ 1024 * down e → Place m e
+place_of m (pos a) s d t =
     let x : m * 2 ^ a * 2 ^ 1074 ≡ m * 2 ^ (a + 1074) * 1 = mul_assoc m (2 ^ a) (2 ^ 1074) ∙ ap (λ (z : ℕ). m * z) (sym (pow-add 2 a 1074)) ∙ sym (mul-one (m * 2 ^ (a + 1074))) in
     record { j = a + 1074; small = s; exact = x; under = reaches m (a + 1074) (pos a) x t }
-place-of m (negsuc a) s d t =
+place_of m (negsuc a) s d t =
     let l : suc a ≤ 1074 = pow_le_back (suc a) 1074 d in
     let x : m * 1 * 2 ^ 1074 ≡ m * 2 ^ (1074 - suc a) * 2 ^ suc a =
     ap (λ (z : ℕ). z * 2 ^ 1074) (mul-one m) ∙ ap (λ (z : ℕ). m * 2 ^ z) (join a l) ∙ ap (λ (z : ℕ). m * z) (pow-add 2 (1074 - suc a) (suc a)) ∙ sym (mul_assoc m (2 ^ (1074 - suc a)) (2 ^ suc a)) in
@@ -46,7 +46,7 @@ place s (suc m) e h =
     let B = ltb (suc m) (2 ^ 53) in
     let C = leb (down e) (2 ^ 1074) in
     let D = ltb (suc m * up e) (2 ^ 1024 * down e) in
-    place-of (suc m) e (ltb→lt (suc m) (2 ^ 53) (and_r A B (and_l (A && B) C (and_l (A && B && C) D h)))) (leb→le (down e) (2 ^ 1074) (and_r (A && B) C (and_l (A && B && C) D h)))
+    place_of (suc m) e (ltb→lt (suc m) (2 ^ 53) (and_r A B (and_l (A && B) C (and_l (A && B && C) D h)))) (leb→le (down e) (2 ^ 1074) (and_r (A && B) C (and_l (A && B && C) D h)))
     (ltb→lt (suc m * up e) (2 ^ 1024 * down e) (and_r (A && B && C) D h))
 
 -- ---- `units_of` is exact

@@ -1,38 +1,36 @@
--- `report::table::inside_lines` meets its contract. The invariant: the lines of the first j fields are written. Assumes nothing.
-use Rattle.std.proofs.Common.{◌≡◌, ℕ, ◌+◌, ◌-◌, ◌*◌, ◌≤◌, List, length, take, refl, ap, ◌∙◌, subst, arith, length-take-le, rules}
+-- `report::table::inside_lines` meets its contract. The invariant: the lines of the first j fields stand there. Assumes nothing.
+use Rattle.std.proofs.Common.{◌≡◌, ℕ, ◌+◌, ◌-◌, ◌*◌, ◌≤◌, map, length, take, refl, ◌∙◌, subst, arith, rules}
+use lib.Ieee.{nan}
+use Rattle.geometry.specs.declared.field.Field.TheVariants.{Level}
 use Rattle.mesh.specs.Words.{points_of}
 use Rattle.mesh.specs.Element.{tets}
-use Rattle.report.specs.Table.{inside_counts, inside_lines}
+use Rattle.report.specs.Table.{inside_count, inside_lines}
 use Rattle.report.specs.inside.Written.{Written}
 use Rattle.report.proofs.Laws.Loops.{inside-more}
-use Rattle.report.proofs.Laws.Count.{count_long, count-few}
 use Rattle.report.proofs.table.inside_lines.Statement.{statement}
 use Rattle.report.proofs.table.inside_lines.Tie as tie
 
 abbrev invariant-loop : tie.invariant-loop
-invariant-loop out₀ at count points nv elements n counts p₀ j₀ out p j = (j ≤ count) × (p ≤ at + 340 * j) × (length out ≡ length out₀) × Written out₀ out at p (inside_lines 0 (take j counts))
+invariant-loop out₀ at count points nv elements n fields p₀ j₀ out p j = (j ≤ count) × (p ≤ at + 340 * j) × (length out ≡ length out₀) × Written out₀ out at p (inside_lines 0 (map (inside_count (points_of nv points) (tets n elements)) (take j fields)))
 
 abbrev decreases-loop : tie.decreases-loop
-decreases-loop out₀ at count points nv elements n counts p₀ j₀ out p j = count - j
-
-inside-counts-requires : tie.Need-inside-counts-requires invariant-loop decreases-loop
-inside-counts-requires c κs = search rules
+decreases-loop out₀ at count points nv elements n fields p₀ j₀ out p j = count - j
 
 loop-holds : tie.Need-loop-init invariant-loop decreases-loop
 unfolding inside_lines
 loop-holds c = (omega arith, omega arith, refl, record { bytes = refl; place = omega arith })
 
-mul-inside : tie.Need-overflow-mul-inside invariant-loop decreases-loop
-mul-inside c = search rules
+mul-f : tie.Need-overflow-mul-f invariant-loop decreases-loop
+mul-f c = search rules
 
-array-read-inside : tie.Need-array-read-inside invariant-loop decreases-loop
-array-read-inside c = search rules
+array-copy-out-f : tie.Need-array-copy-out-f invariant-loop decreases-loop
+array-copy-out-f c = search rules
+
+inside-count-requires : tie.Need-inside-count-requires invariant-loop decreases-loop
+inside-count-requires c κs = search rules
 
 inside-line-requires : tie.Need-inside-line-requires invariant-loop decreases-loop
-inside-line-requires c κs =
-    let a = c.before.before.before.before.before.before.before.args in
-    let few = count-few (points_of a.nv a.points.now) (take a.count a.fields) a.elements.now c.before.before.before.inside-counts.result a.n a.count c.before.before.before.inside-counts.ensures c.before.before.loop.j c.before.loop-test.true in
-    (omega arith, omega arith, omega arith)
+inside-line-requires c κs = search rules
 
 add-j : tie.Need-overflow-add-j invariant-loop decreases-loop
 add-j c = search rules
@@ -41,22 +39,13 @@ loop-less : tie.Need-loop-smaller invariant-loop decreases-loop
 loop-less c = search rules
 
 loop-again : tie.Need-loop-preserved invariant-loop decreases-loop
-loop-again c =
-    let a = c.before.before.before.before.before.before.before.before.before.before.args in
-    let e : length a.fields ≡ 8 = c.before.before.before.before.before.before.before.before.before.before.well-formed.1.1.0.1.0.1 in
-    let fs = take a.count a.fields in
-    let long = count_long (points_of a.nv a.points.now) fs a.elements.now c.before.before.before.before.before.before.inside-counts.result a.n a.count c.before.before.before.before.before.before.inside-counts.ensures (length-take-le a.count a.fields (omega arith)) in
-    (omega arith, omega (arith, c.before.before.inside-line.ensures.1), c.before.before.inside-line.auto.0 ∙ c.before.before.before.before.before.loop.invariant.2, inside-more c.before.before.before.before.before.before.inside-counts.result c.before.before.before.before.before.loop.j _ (omega arith) refl c.before.before.before.before.before.loop.invariant.3 c.before.before.inside-line.ensures.0)
+loop-again c = let l : length c.before.before.before.before.before.before.before.before.before.before.before.args.t3 ≡ 8 = c.before.before.before.before.before.before.before.before.before.before.before.well-formed.1.1.0.1.0.1 in (omega arith, omega (arith, c.before.before.inside-line.ensures.1), c.before.before.inside-line.auto.0 ∙ c.before.before.before.before.before.before.before.loop.invariant.2, inside-more (inside_count (points_of c.before.before.before.before.before.before.before.before.before.before.before.args.nv c.before.before.before.before.before.before.before.before.before.before.before.args.points.now) (tets c.before.before.before.before.before.before.before.before.before.before.before.args.n c.before.before.before.before.before.before.before.before.before.before.before.args.elements.now)) c.before.before.before.before.before.before.before.before.before.before.before.args.t3 (Level nan) c.before.before.before.before.before.before.before.loop.j c.before.before.before.before.inside-count.result (omega arith) c.before.before.before.before.inside-count.ensures.0 c.before.before.before.before.before.before.before.loop.invariant.3 c.before.before.inside-line.ensures.0)
 
 same_length : tie.Need-same-length invariant-loop decreases-loop
 same_length c = search rules
 
 returns : tie.Need-returns invariant-loop decreases-loop
-returns c =
-    let a = c.before.before.before.before.before.before.args in
-    let e : c.before.loop.j ≡ a.count = omega arith in
-    let all : take c.before.loop.j c.before.before.inside-counts.result ≡ inside_counts (points_of a.nv a.points.now) (tets a.n a.elements.now) (take a.count a.fields) = ap (λ (k : ℕ). take k c.before.before.inside-counts.result) e ∙ c.before.before.inside-counts.ensures in
-    (subst (λ (ns : List ℕ). Written a.out.now c.before.loop.out a.at c.before.loop.p (inside_lines 0 ns)) all c.before.loop.invariant.3, omega arith)
+returns c = (let e : c.before.loop.j ≡ c.before.before.before.before.before.args.count = omega arith in subst (λ (u : ℕ). Written c.before.before.before.before.before.args.out.now c.before.loop.out c.before.before.before.before.before.args.at c.before.loop.p (inside_lines 0 (map (inside_count (points_of c.before.before.before.before.before.args.nv c.before.before.before.before.before.args.points.now) (tets c.before.before.before.before.before.args.n c.before.before.before.before.before.args.elements.now)) (take u c.before.before.before.before.before.args.t3)))) e c.before.loop.invariant.3, omega arith)
 
 pub inside-lines-spec : {M : Type 1} → statement M
 inside-lines-spec =
@@ -64,10 +53,10 @@ inside-lines-spec =
     (tie.spec
     invariant-loop
     decreases-loop
-    inside-counts-requires
     loop-holds
-    mul-inside
-    array-read-inside
+    mul-f
+    array-copy-out-f
+    inside-count-requires
     inside-line-requires
     add-j
     loop-less

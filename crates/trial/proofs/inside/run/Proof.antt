@@ -1,7 +1,7 @@
--- `trial::inside::all_means` ends. Assumes nothing.
+-- `trial::inside::run` ends. Assumes nothing.
 use Rattle.std.proofs.Common.{◌-◌, ◌≤◌, rules}
-use Rattle.trial.proofs.inside.all_means.Statement.{statement}
-use Rattle.trial.proofs.inside.all_means.Tie as tie
+use Rattle.trial.proofs.inside.run.Statement.{statement}
+use Rattle.trial.proofs.inside.run.Tie as tie
 
 abbrev invariant-loop : tie.invariant-loop
 invariant-loop row₀ row = row ≤ 5
@@ -30,8 +30,8 @@ line-requires-2 c κs = search rules
 returns : tie.Need-returns invariant-loop decreases-loop
 returns c = search rules
 
-pub all-means-spec : {M : Type 1} → statement M
-all-means-spec =
+pub run_spec : {M : Type 1} → statement M
+run_spec =
     tie.close
     (tie.spec
     invariant-loop
