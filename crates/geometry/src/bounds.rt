@@ -6,13 +6,13 @@ ghost use Rattle.geometry.specs.Rank.{nearest_away, rank_value, rank};
 use crate::float::smaller;
 use crate::point::Point;
 
-#[derive(Drop)]
+#[derive(Clone, Copy)]
 pub struct Bounds {
     pub lo: Point,
     pub hi: Point,
 }
 
-#[derive(Drop)]
+#[derive(Clone, Copy)]
 pub struct Cells {
     pub x: u32,
     pub y: u32,
@@ -20,7 +20,7 @@ pub struct Cells {
 }
 
 // The box with what stands beside it. Bits of periodic: x is 1, y 2, z 4.
-#[derive(Drop)]
+#[derive(Clone, Copy)]
 pub struct Options {
     pub bounds: Bounds,
     pub cells: Cells,
@@ -29,7 +29,7 @@ pub struct Options {
 }
 
 // The rank per direction.
-#[derive(Drop)]
+#[derive(Clone, Copy)]
 pub struct Ranks {
     pub x: u64,
     pub y: u64,

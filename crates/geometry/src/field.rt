@@ -6,7 +6,7 @@ use crate::point::{Point, dot, sub};
 use crate::root::root;
 
 // Level(c), Plane(n, d), Ball(c, r).
-#[derive(Drop)]
+#[derive(Clone, Copy)]
 pub enum Field {
     Level(f64),
     Plane(Point, f64),

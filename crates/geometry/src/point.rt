@@ -4,7 +4,7 @@ ghost use Rattle.geometry.specs.Point.{difference, dot, cross, norm, determinant
 
 use crate::root::root;
 
-#[derive(Drop)]
+#[derive(Clone, Copy)]
 pub struct Point {
     pub x: f64,
     pub y: f64,

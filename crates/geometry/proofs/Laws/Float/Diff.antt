@@ -1,19 +1,18 @@
 -- x - y, for y ≤ x, is the difference of the places, rounded; and a quotient's size. Assumes nothing.
-use Rattle.std.proofs.Common.{◌≡◌, ℕ, zero, suc, ◌+◌, ◌-◌, ◌*◌, ◌/◌, ◌%◌, ◌^◌, ◌<◌, ◌≤◌, Bool, true, false, cond, not, ◌&&◌, ◌||◌, T, eqb, ltb, ◌⊎◌, ℤ, pos, negsuc, sym, refl, ap, ◌∙◌, subst, inl, inr, true≢false, zero-le, le_trans, le_of_eq, lt_of_lt_of_le, lt_of_le_of_lt, add-zero, le_of_lt, lt_irrefl, mul-le-mul_right, zero-lt-suc, mul_assoc, mul_comm, le_antisymm, mul-le-mul_left, mul-pos, one-mul, zero-add, zero-mul, mul-one, mul_right_comm, not-le_of_lt, le_of_mul-le-mul_right, mul_left_comm, arith, lit<, pow_pos, ltb-false, ltb-true, le-ltb, lt-ltb, ne_eqb}
-use native.Mathlib.Nat.{mul-sub, mul-mul-mul_comm}
+use Rattle.std.proofs.Common.{◌≡◌, ℕ, zero, suc, ◌+◌, ◌-◌, ◌*◌, ◌^◌, ◌<◌, ◌≤◌, Bool, true, false, cond, not, ◌&&◌, ◌||◌, T, eqb, ltb, ◌⊎◌, ℤ, pos, sym, refl, ap, ◌∙◌, subst, inl, inr, zero-le, le_trans, le_of_eq, lt_of_le_of_lt, lt_irrefl, mul-le-mul_right, zero-lt-suc, mul_assoc, mul_comm, mul-le-mul_left, mul-pos, zero-mul, mul_right_comm, not-le_of_lt, le_of_mul-le-mul_right, arith, lit<, pow_pos, ltb-false, le-ltb, ne_eqb}
+use native.Mathlib.Nat.{mul-sub}
 use mathlib.Core.Bool.{beq}
 use lib.Dec.{eqb-suc-zero}
-use lib.Pow.{pow-lt}
-use lib.Ieee.{Float, nan, inf, fin, binary64, up, down, unlike, round, sum, neg, add, sub, mul, div, eq, fits}
-use lib.Ieee.Fits.{up_pos, down_pos, round-fits, sub-fits}
+use lib.Ieee.{Float, nan, inf, fin, binary64, up, down, unlike, round, sum, neg, add, sub, div, eq, fits}
+use lib.Ieee.Fits.{up_pos, down_pos}
 use lib.Ieee.Exact.{HasValue}
 use lib.Ieee.Scale.{round_same, round_val, grid}
-use Rattle.geometry.specs.Units.{units_of, NotNegative}
+use Rattle.geometry.specs.Units.{units_of}
 use Rattle.geometry.specs.inside.Units.{Within}
 use Rattle.geometry.proofs.Laws.Float.Grid.{grid_mono, grid-exact}
 use Rattle.geometry.proofs.Laws.Float.Units.{units-exact, test, sums}
-use Rattle.geometry.proofs.Laws.Float.Magnitude.{round-within, within-neg, within_more, of-value}
-use Rattle.geometry.proofs.Laws.Float.Sign.{Signed, round-signed, round-neg}
+use Rattle.geometry.proofs.Laws.Float.Magnitude.{round-within, within-neg, of-value}
+use Rattle.geometry.proofs.Laws.Float.Sign.{round-signed, round-neg}
 use Rattle.geometry.proofs.Laws.Float.Up.{Up, round_up, signed_up}
 use Rattle.geometry.proofs.Laws.Float.Spot.{spot_at, spot, inside, Pair}
 

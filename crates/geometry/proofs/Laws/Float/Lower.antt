@@ -1,17 +1,16 @@
 -- How small a product can be; and what a sum or a square that is small says of its parts. Assumes nothing.
-use Rattle.std.proofs.Common.{◌≡◌, ℕ, zero, suc, ◌+◌, ◌-◌, ◌*◌, ◌/◌, ◌%◌, ◌^◌, ◌<◌, ◌≤◌, Bool, true, false, cond, not, ◌&&◌, T, eqb, ltb, ◌⊎◌, ℤ, pos, negsuc, sym, refl, ap, ◌∙◌, subst, inl, inr, true≢false, zero-le, le_trans, le_of_eq, lt_of_lt_of_le, le-add_right, lt_of_le_of_lt, le_of_lt, lt_irrefl, mul-le-mul_right, zero-lt-suc, mul_assoc, mul_comm, mul-le-mul, mul-le-mul_left, mul-pos, one-mul, lt_of_not-le, zero-mul, mul-one, mul_right_comm, not-le_of_lt, le_of_mul-le-mul_right, arith, lit<, lit≤, pow_pos}
+use Rattle.std.proofs.Common.{◌≡◌, ℕ, zero, suc, ◌+◌, ◌*◌, ◌^◌, ◌<◌, ◌≤◌, Bool, true, false, T, pos, sym, ap, ◌∙◌, subst, true≢false, le_trans, le_of_eq, le-add_right, lt_of_le_of_lt, le_of_lt, mul-le-mul_right, zero-lt-suc, mul_assoc, mul-le-mul, mul-pos, one-mul, lt_of_not-le, mul_right_comm, not-le_of_lt, le_of_mul-le-mul_right, lit<, pow_pos}
 use native.Mathlib.Nat.{mul-mul-mul_comm}
 use native.Mathlib.Decide.{dec_le}
-use mathlib.Core.Bool.{beq}
 use lib.Pow.{pow-lt}
-use lib.Ieee.{Float, nan, inf, fin, binary64, up, down, unlike, round, sum, neg, add, sub, mul, div, eq, level, fits}
-use lib.Ieee.Fits.{up_pos, down_pos}
+use lib.Ieee.{Float, nan, inf, fin, binary64, up, down, unlike, round, sum, neg, add, mul, eq, fits}
+use lib.Ieee.Fits.{down_pos}
 use lib.Ieee.Exact.{HasValue}
-use lib.Ieee.Scale.{round_same, round_val, round_under, grid, finite}
+use lib.Ieee.Scale.{round_same, round_val, round_under, grid}
 use Rattle.geometry.specs.Units.{units_of}
 use Rattle.geometry.specs.inside.Units.{Within}
 use Rattle.geometry.proofs.Laws.Float.Grid.{grid_mono, grid-exact}
-use Rattle.geometry.proofs.Laws.Float.Units.{units-exact, units-is, units-grid, place, sums}
+use Rattle.geometry.proofs.Laws.Float.Units.{units-exact, units-grid, place, sums}
 use Rattle.geometry.proofs.Laws.Float.Magnitude.{within-neg, within-finite}
 use Rattle.geometry.proofs.Laws.Float.Sign.{Signed, round-neg}
 use Rattle.geometry.proofs.Laws.Float.Mirror.{add-comm-f, neg-neg}

@@ -1,11 +1,10 @@
 -- Values that are equal but for the sign of a zero, and negation: y - x is the negation of x - y in that sense, and so on through products and sums. Assumes nothing.
-use Rattle.std.proofs.Common.{◌≡◌, ℕ, zero, suc, ◌+◌, ◌-◌, ◌*◌, ◌/◌, ◌%◌, ◌^◌, ◌<◌, ◌≤◌, Bool, true, false, cond, not, ◌&&◌, T, eqb, ltb, ◌⊎◌, ℤ, pos, sym, refl, ap, ◌∙◌, subst, inl, inr, true≢false, zero-le, add-zero, le_of_lt, lt_irrefl, zero-lt-suc, mul_assoc, mul_comm, add_comm, le_antisymm, mul-pos, mul-zero, zero-mul, not-le_of_lt, arith, lit<, ltb-false, ltb-true, le-ltb, lt-ltb}
-use mathlib.Core.Bool.{beq}
+use Rattle.std.proofs.Common.{◌≡◌, ℕ, zero, suc, ◌+◌, ◌-◌, ◌*◌, ◌<◌, ◌≤◌, Bool, true, false, cond, not, eqb, ltb, ◌⊎◌, ℤ, sym, refl, ap, ◌∙◌, subst, inl, inr, zero-le, add-zero, le_of_lt, lt_irrefl, zero-lt-suc, mul_comm, add_comm, le_antisymm, mul-pos, mul-zero, zero-mul, not-le_of_lt, arith, lit<, ltb-false, ltb-true, le-ltb}
 use Rattle.geometry.specs.Float.{zero64}
 use lib.Ieee.Exact.{HasValue, round_exact}
-use lib.Ieee.{Float, nan, inf, fin, binary64, up, down, unlike, round, odd, units, sum, neg, add, sub, mul, lt, below}
+use lib.Ieee.{Float, nan, inf, fin, binary64, up, down, unlike, round, sum, neg, add, sub, mul, lt}
 use lib.Ieee.Fits.{up_pos, down_pos}
-use Rattle.geometry.proofs.Laws.Float.Sign.{Signed, round-signed, round-neg}
+use Rattle.geometry.proofs.Laws.Float.Sign.{round-neg}
 
 -- equal, or two zeros
 abbrev pub Same : Float → Float → Type 0

@@ -1,13 +1,11 @@
 -- The place of a finite value on a line of units, from 2 ^ 2098 units below 0 on: the order of the values is that of their places, and a difference is the places', rounded. Assumes nothing.
-use Rattle.std.proofs.Common.{◌≡◌, ℕ, zero, suc, ◌+◌, ◌-◌, ◌*◌, ◌/◌, ◌%◌, ◌^◌, ◌<◌, ◌≤◌, Bool, true, false, cond, not, ◌&&◌, ◌||◌, T, eqb, ltb, ◌⊎◌, ℤ, pos, negsuc, sym, refl, ap, ◌∙◌, subst, inl, inr, true≢false, zero-le, le_of_eq, lt_of_le_of_lt, add-zero, le_of_lt, mul_assoc, mul_comm, le_antisymm, mul-pos, zero-add, zero-mul, mul_right_comm, not-le_of_lt, arith, eqb→eq, ltb→lt, pow_pos, ltb-false, ltb-true, le-ltb, lt-ltb}
-use native.Mathlib.Nat.{mul-sub}
+use Rattle.std.proofs.Common.{◌≡◌, ℕ, zero, suc, ◌+◌, ◌-◌, ◌*◌, ◌^◌, ◌<◌, ◌≤◌, Bool, true, false, ◌||◌, T, eqb, ltb, ◌⊎◌, ℤ, sym, refl, ap, ◌∙◌, subst, inl, inr, le_of_eq, le_of_lt, le_antisymm, mul-pos, zero-mul, not-le_of_lt, arith, eqb→eq, ltb→lt, pow_pos, ltb-false, le-ltb}
 use mathlib.Core.Bool.{beq}
-use lib.Ieee.{Float, nan, inf, fin, binary64, up, down, round, sum, neg, add, sub, lt, eq, le, below, level, fits}
-use lib.Ieee.Fits.{up_pos, down_pos, and_l, and_r}
-use lib.Ieee.Scale.{round_same}
+use lib.Ieee.{Float, nan, inf, fin, binary64, up, down, lt, eq, le, below, level, fits}
+use lib.Ieee.Fits.{down_pos, and_l, and_r}
 use Rattle.geometry.specs.Units.{units_of}
 use Rattle.geometry.specs.inside.Units.{Within}
-use Rattle.geometry.proofs.Laws.Float.Units.{units-exact, units-is, test, sums, place}
+use Rattle.geometry.proofs.Laws.Float.Units.{units-exact, units-is, test, place}
 
 -- the place, for a K above the units
 abbrev pub spot_at : ℕ → Bool → ℕ → ℕ

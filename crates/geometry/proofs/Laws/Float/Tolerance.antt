@@ -1,5 +1,5 @@
 -- A tolerance that is added in f64 and compared: what it says of the exact values, in units of 2 ^ -1074. Assumes nothing.
-use Rattle.std.proofs.Common.{◌≡◌, ℕ, zero, suc, ◌+◌, ◌-◌, ◌*◌, ◌/◌, ◌%◌, ◌^◌, ◌<◌, ◌≤◌, Bool, true, false, cond, not, ◌&&◌, T, ltb, ◌⊎◌, ℤ, pos, negsuc, sym, refl, ap, ◌∙◌, subst, inl, inr, true≢false, zero-le, le_trans, le_of_eq, lt_of_lt_of_le, le-add_right, lt_of_le_of_lt, le_of_lt, lt_irrefl, mul-le-mul_right, eq-or-lt_of_le, mul-le-mul_left, lt_of_not-le, not-le_of_lt, arith, lit<, lit≤, pow_pos, pow_mono, pow-add, ltb-false, ltb-true}
+use Rattle.std.proofs.Common.{◌≡◌, ℕ, ◌+◌, ◌-◌, ◌*◌, ◌^◌, ◌<◌, ◌≤◌, Bool, true, false, cond, T, ltb, negsuc, sym, refl, ap, ◌∙◌, true≢false, le_trans, le_of_eq, lt_of_lt_of_le, le-add_right, lt_of_le_of_lt, le_of_lt, mul-le-mul_right, mul-le-mul_left, lt_of_not-le, arith, lit<, lit≤, pow_pos, pow_mono, ltb-false, ltb-true}
 use native.Mathlib.Decide.{dec_le}
 use lib.Ieee.{Float, nan, inf, fin, binary64, size, round, add, lt, fits}
 use lib.Ieee.Digits.{size-le}

@@ -1,11 +1,10 @@
 -- What binary64 holds is a whole number of units of 2 ^ -1074, with at most 53 digits and zeros after them. The order, and a sum, of values that are not negative, by those numbers. Assumes nothing.
-use Rattle.std.proofs.Common.{◌≡◌, ℕ, zero, suc, ◌+◌, ◌-◌, ◌*◌, ◌/◌, ◌%◌, ◌^◌, ◌<◌, ◌≤◌, Bool, true, false, cond, not, ◌&&◌, T, eqb, ltb, leb, ◌⊎◌, ℤ, pos, negsuc, sym, refl, ap, ◌∙◌, subst, inl, inr, true≢false, zero-le, le_trans, le_of_eq, lt_of_lt_of_le, le_of_suc-le-suc, add-zero, le_of_lt, lt_irrefl, mul-le-mul_right, zero-lt-suc, mul_assoc, mul_comm, add-mul, lt_of_mul-lt-mul_right, mul-lt-mul_of_pos_right, mul-pos, one-mul, lt_of_not-le, zero-add, zero-mul, mul-one, mul_right_comm, not-le_of_lt, div-one, mul-div_cancel, mul_left_comm, arith, lit<, eqb→eq, ltb→lt, leb→le, pow_pos, pow-add, ltb-false, ltb-true, le-ltb, lt-ltb}
-use native.Mathlib.Nat.{sub-zero, mul-mul-mul_comm}
+use Rattle.std.proofs.Common.{◌≡◌, ℕ, zero, suc, ◌+◌, ◌-◌, ◌*◌, ◌/◌, ◌%◌, ◌^◌, ◌<◌, ◌≤◌, Bool, true, false, cond, ◌&&◌, T, eqb, ltb, leb, ℤ, pos, negsuc, sym, refl, ap, ◌∙◌, subst, zero-le, lt_of_lt_of_le, le_of_suc-le-suc, lt_irrefl, zero-lt-suc, mul_assoc, mul_comm, add-mul, lt_of_mul-lt-mul_right, mul-lt-mul_of_pos_right, mul-pos, lt_of_not-le, zero-add, zero-mul, mul-one, mul_right_comm, not-le_of_lt, mul-div_cancel, arith, lit<, ltb→lt, leb→le, pow_pos, pow-add, ltb-false, ltb-true, le-ltb, lt-ltb}
 use lib.Pow.{pow-lt}
 use lib.Ieee.{Float, nan, inf, fin, binary64, up, down, round, sum, add, lt, fits}
 use lib.Ieee.Fits.{up_pos, down_pos, and_l, and_r}
 use lib.Ieee.Exact.{HasValue}
-use lib.Ieee.Scale.{round_same, round_val, grid}
+use lib.Ieee.Scale.{round_same, grid}
 use Rattle.geometry.specs.Units.{units_of, NotNegative}
 use Rattle.geometry.proofs.Laws.Float.Grid.{grid-exact}
 

@@ -1,11 +1,9 @@
 -- Values that are no NaN and not below 0, an infinity and -0 among them: sums, products and quotients of them. Assumes nothing.
-use Rattle.std.proofs.Common.{◌≡◌, ℕ, zero, suc, ◌+◌, ◌-◌, ◌*◌, ◌/◌, ◌%◌, ◌^◌, ◌<◌, ◌≤◌, Bool, true, false, cond, not, ◌&&◌, T, eqb, ltb, ◌⊎◌, ℤ, pos, sym, refl, ap, ◌∙◌, subst, inl, inr, true≢false, zero-le, add-zero, lt_irrefl, zero-lt-suc, mul-pos, mul-zero, zero-add, zero-mul, arith, lit<, ltb-false, ltb-true, le-ltb, lt-ltb}
-use mathlib.Core.Bool.{beq}
+use Rattle.std.proofs.Common.{◌≡◌, ℕ, zero, suc, ◌+◌, ◌*◌, ◌<◌, ◌≤◌, Bool, true, false, cond, not, T, eqb, ltb, ◌⊎◌, ℤ, pos, sym, refl, ap, ◌∙◌, subst, inl, inr, true≢false, zero-le, zero-lt-suc, mul-pos, mul-zero, zero-mul, arith, lit<, le-ltb}
 use lib.Dec.{eqb-suc-zero}
-use lib.Ieee.{Float, nan, inf, fin, binary64, up, down, unlike, round, sum, neg, add, mul, div, lt, eq, level, is_nan}
+use lib.Ieee.{Float, nan, inf, fin, binary64, up, down, unlike, round, sum, add, mul, div, lt, eq, level, is_nan}
 use lib.Ieee.Fits.{up_pos, down_pos}
 use lib.Ieee.Exact.{HasValue, round_exact}
-use lib.Ieee.Scale.{finite}
 use Rattle.geometry.specs.Units.{NotNegative}
 use Rattle.geometry.specs.inside.Units.{Within}
 use Rattle.geometry.proofs.Laws.Float.Mirror.{zero_of, zeroed}

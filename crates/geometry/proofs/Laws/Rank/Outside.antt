@@ -302,19 +302,19 @@ away-reaches (fin false m e) h =
     least n true h = omega arith
     least n false h = omega arith
 
-module _ (x lo hi : Float) (x_Fits : T (fits binary64 x)) (x-in : within 20 x) (over : T (le hi x)) (h : Between hi lo hi) where
+module _ (x lo hi : Float) (x-fits : T (fits binary64 x)) (x-in : within 20 x) (over : T (le hi x)) (h : Between hi lo hi) where
   lo-lt : spot lo < spot hi
   lo-lt = lt-spot (2 ^ 1094) (2 ^ 1094) lo hi h.lo-fits h.hi-fits h.lo-in h.hi-in h.apart
 
   hi-le : spot hi ≤ spot x
-  hi-le = le-spot (2 ^ 1094) (2 ^ 1094) hi x h.hi-fits x_Fits h.hi-in x-in over
+  hi-le = le-spot (2 ^ 1094) (2 ^ 1094) hi x h.hi-fits x-fits h.hi-in x-in over
 
   pub rank-above : 10 ^ 11 ≤ rank_value x lo hi
   unfolding rank_value E G
   rank-above =
       let D = spot x - spot lo in
       let g = G hi lo hi h in
-      let r = sub-spot (2 ^ 1094) (2 ^ 1094) x lo x_Fits h.lo-fits x-in h.lo-in (le_trans (le_of_lt lo-lt) hi-le) in
+      let r = sub-spot (2 ^ 1094) (2 ^ 1094) x lo x-fits h.lo-fits x-in h.lo-in (le_trans (le_of_lt lo-lt) hi-le) in
       let p : 0 < D = apart (spot lo) (spot hi) (spot x) lo-lt hi-le in
       let u = rounded-under (sub binary64 x lo) D r p (within-finite (2 ^ 1095) (sub binary64 x lo) (less_by 20 x lo (lit< tt) x-in h.lo-in)) in
       let l : g ≤ grid binary64 D (2 ^ 1074) = grid_mono (spot hi - spot lo) (2 ^ 1074) D (2 ^ 1074) (pow_pos 1074) (pow_pos 1074) (mul-le-mul_right (2 ^ 1074) (diff (spot lo) (spot hi) (spot x) hi-le)) in

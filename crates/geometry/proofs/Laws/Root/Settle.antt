@@ -1,6 +1,6 @@
 -- The exact test of a guess t * 2 ^ 21 + d at the root of y * 2 ^ 51: what t and d leave, in words of 64 bits, and what the two comparisons
 -- then say. No law here is about how good the guess is. Assumes nothing.
-use Rattle.std.proofs.Common.{◌≡◌, ℕ, zero, suc, ◌+◌, ◌-◌, ◌*◌, ◌/◌, ◌%◌, ◌^◌, ◌<◌, ◌≤◌, sym, refl, ◌∙◌, subst, lt_of_le_of_lt, le_of_lt, mul-le-mul_left, mul-lt-mul_of_pos_right, lt_of_not-le, arith, pow_pos, pow-add}
+use Rattle.std.proofs.Common.{◌≡◌, ℕ, zero, suc, ◌+◌, ◌*◌, ◌/◌, ◌%◌, ◌^◌, ◌<◌, ◌≤◌, sym, refl, ◌∙◌, subst, lt_of_le_of_lt, le_of_lt, mul-le-mul_left, mul-lt-mul_of_pos_right, lt_of_not-le, arith, pow_pos, pow-add}
 use native.Mathlib.Decide.{dec_le}
 use Rattle.geometry.specs.inside.Whole.{IsRoot, NearRoot, Halved}
 

@@ -1,6 +1,6 @@
 -- The score of a tetrahedron with points within 2 ^ 20 is finite. Where the sum of squared_edge squared_edges L is 2 ^ -634 or more, so is its root 2 ^ -317 and the divisor 2 ^ -951, and the determinant is within 2 ^ 66.
 -- Where L is less, each coordinate of an edge is within 2 ^ -317, and the determinant within 2 ^ -948, while the divisor is one unit at least. Assumes nothing.
-use Rattle.std.proofs.Common.{◌≡◌, ℕ, zero, suc, ◌+◌, ◌-◌, ◌*◌, ◌/◌, ◌^◌, ◌<◌, ◌≤◌, Bool, true, false, cond, not, T, eqb, ◌⊎◌, sym, refl, ap, ◌∙◌, inl, inr, true≢false, le_trans, le_of_eq, lt_of_le_of_lt, mul-le-mul_right, mul_assoc, lt_of_mul-lt-mul_right, mul-pos, lt_of_not-le, le-div_iff_mul-le, zero-mul, mul_right_comm, not-le_of_lt, arith, lit<, lit≤, pow_pos, pow-add}
+use Rattle.std.proofs.Common.{◌≡◌, ℕ, zero, suc, ◌+◌, ◌-◌, ◌*◌, ◌/◌, ◌^◌, ◌<◌, ◌≤◌, Bool, true, false, cond, T, eqb, ◌⊎◌, sym, refl, ap, ◌∙◌, inl, inr, true≢false, le_trans, le_of_eq, lt_of_le_of_lt, mul-le-mul_right, mul_assoc, lt_of_mul-lt-mul_right, mul-pos, lt_of_not-le, le-div_iff_mul-le, zero-mul, mul_right_comm, not-le_of_lt, arith, lit<, lit≤, pow_pos, pow-add}
 use native.Mathlib.Decide.{dec_le}
 use lib.Pow.{le_ones}
 use lib.Ieee.{Float, nan, inf, fin, binary64, up, down, lt, eq, div, fits}

@@ -1,10 +1,10 @@
 -- Points within 2 ^ 20: the determinant is within 2 ^ 66 and the sum of squared_edge squared_edges within 2 ^ 49, so both are finite and no NaN. Assumes nothing.
-use Rattle.std.proofs.Common.{ℕ, suc, ◌+◌, ◌<◌, ◌≤◌, not, T, arith, lit<, lit≤}
-use lib.Ieee.{Float, is_nan}
+use Rattle.std.proofs.Common.{ℕ, suc, ◌+◌, ◌<◌, ◌≤◌, arith, lit<, lit≤}
+use lib.Ieee.{Float}
 use Rattle.geometry.specs.inside.Units.{within}
 use Rattle.geometry.proofs.Laws.Float.Magnitude.{plus, less_by, times, more}
 use Rattle.geometry.specs.declared.point.Point.{Point}
-use Rattle.geometry.specs.Float.{◌+₆₄◌, ◌-₆₄◌, ◌*₆₄◌}
+use Rattle.geometry.specs.Float.{◌+₆₄◌, ◌*₆₄◌}
 use Rattle.geometry.specs.Point.{difference, dot, cross, determinant}
 use Rattle.geometry.specs.Score.{squared_edge, squared_edges}
 

@@ -1,5 +1,5 @@
 -- The score of a tetrahedron with points within 2 ^ 20 is no NaN and not below 0. Assumes nothing.
-use Rattle.std.proofs.Common.{◌≡◌, ℕ, zero, suc, ◌+◌, ◌-◌, ◌*◌, ◌/◌, ◌^◌, ◌<◌, ◌≤◌, Bool, true, false, cond, not, T, eqb, ltb, ℤ, sym, refl, ap, ◌∙◌, true≢false, zero-le, le_trans, le_of_eq, lt_of_lt_of_le, le-add_right, mul-le-mul_right, zero-lt-suc, mul-pos, zero-mul, arith, lit<, lit≤, pow_pos, lt-ltb}
+use Rattle.std.proofs.Common.{◌≡◌, ℕ, zero, suc, ◌+◌, ◌*◌, ◌/◌, ◌^◌, ◌<◌, ◌≤◌, Bool, true, false, cond, not, T, eqb, ltb, ℤ, sym, refl, ap, ◌∙◌, true≢false, zero-le, le_trans, le_of_eq, lt_of_lt_of_le, le-add_right, mul-le-mul_right, zero-lt-suc, mul-pos, zero-mul, arith, lit<, lit≤, pow_pos, lt-ltb}
 use lib.Ieee.{Float, nan, inf, fin, binary64, up, down, neg, lt, eq, div, fits, is_nan}
 use lib.Ieee.Fits.{up_pos, add-fits}
 use Rattle.geometry.specs.Root.{number, operand, exact_root, rounded, root_of, sqrt}

@@ -1,10 +1,10 @@
 -- With the last two points exchanged the determinant is its negation, but for the sign of a zero. Assumes nothing.
-use Rattle.std.proofs.Common.{◌≡◌, sym, ap, ◌∙◌, subst}
-use lib.Ieee.{Float, binary64, neg, lt}
-use Rattle.geometry.proofs.Laws.Float.Mirror.{Same, same-trans, same-path, same_add, add-neg, sub-mirror, mul-comm-f, mul-neg, same-mul, opposite}
+use Rattle.std.proofs.Common.{◌≡◌, subst}
+use lib.Ieee.{Float, neg, lt}
+use Rattle.geometry.proofs.Laws.Float.Mirror.{Same, same-trans, same_add, add-neg, sub-mirror, mul-comm-f, mul-neg, same-mul, opposite}
 use Rattle.geometry.specs.declared.point.Point.{Point}
 use Rattle.geometry.specs.Float.{◌+₆₄◌, ◌-₆₄◌, ◌*₆₄◌, zero64}
-use Rattle.geometry.specs.Point.{difference, dot, cross, determinant}
+use Rattle.geometry.specs.Point.{difference, cross, determinant}
 
 -- (p * q - r * s) and (s * r - q * p)
 turn : (p q r s : Float) → Same ((p *₆₄ q) -₆₄ (r *₆₄ s)) (neg ((s *₆₄ r) -₆₄ (q *₆₄ p)))

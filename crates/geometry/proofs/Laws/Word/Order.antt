@@ -157,15 +157,15 @@ eq-units (fin s m e) (fin t o d) f g n k =
     signs false true n k = inr (inr (nil o (up d) (down e) k))
 
 -- ---- the order
-module _ (x y : Float) (x_Fits : T (fits binary64 x)) (y-fits : T (fits binary64 y)) (x-plus : NotNegative x) (y-plus : NotNegative y) where
+module _ (x y : Float) (x-fits : T (fits binary64 x)) (y-fits : T (fits binary64 y)) (x-plus : NotNegative x) (y-plus : NotNegative y) where
   pub order_lt : ltb (order_bits x) (order_bits y) ≡ lt x y
   order_lt =
       (λ i. ltb (order-code x x-plus i) (order-code y y-plus i))
-      ∙ by-lt code code_mono (units_of x) (units_of y) (code_same x y x_Fits y-fits x-plus y-plus)
-      ∙ sym (lt-units x y x_Fits y-fits x-plus y-plus)
+      ∙ by-lt code code_mono (units_of x) (units_of y) (code_same x y x-fits y-fits x-plus y-plus)
+      ∙ sym (lt-units x y x-fits y-fits x-plus y-plus)
 
   pub order-eq : eqb (order_bits x) (order_bits y) ≡ eq x y
   order-eq =
       (λ i. eqb (order-code x x-plus i) (order-code y y-plus i))
-      ∙ by-eq code code_mono (units_of x) (units_of y) (code_same x y x_Fits y-fits x-plus y-plus)
-      ∙ sym (eq-units x y x_Fits y-fits x-plus y-plus)
+      ∙ by-eq code code_mono (units_of x) (units_of y) (code_same x y x-fits y-fits x-plus y-plus)
+      ∙ sym (eq-units x y x-fits y-fits x-plus y-plus)
