@@ -14,7 +14,7 @@ use crate::rows::{eq_rows, put_triple, sort_rows};
 use crate::words::{clear, copy_over};
 
 // How many surface triples, or the number of the refusal.
-#[derive(Drop)]
+#[derive(Clone, Copy)]
 pub enum Outcome {
     Surface(usize),
     Refused(u32),

@@ -15,7 +15,7 @@ use crate::vertex::tet_at;
 use crate::words::{clear_from, copy_words};
 
 // How many simplices of each size.
-#[derive(Drop)]
+#[derive(Clone, Copy)]
 pub struct Counts {
     pub vertices: usize,
     pub edges: usize,

@@ -21,7 +21,7 @@ use geometry::field::Field;
 use geometry::point::Point;
 
 // How many vertices, elements and surface triples a mesh has.
-#[derive(Drop)]
+#[derive(Clone, Copy)]
 pub struct Sizes {
     pub vertices: usize,
     pub elements: usize,
@@ -29,7 +29,7 @@ pub struct Sizes {
 }
 
 // What stands beside the mesh in a call: its sizes, the options, and how many of the fields count.
-#[derive(Drop)]
+#[derive(Clone, Copy)]
 pub struct Settings {
     pub sizes: Sizes,
     pub options: Options,
@@ -37,7 +37,7 @@ pub struct Settings {
 }
 
 // How long the lent slices are.
-#[derive(Drop)]
+#[derive(Clone, Copy)]
 pub struct Lengths {
     pub parameters: usize,
     pub points: usize,

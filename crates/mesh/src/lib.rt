@@ -1,6 +1,8 @@
 // Numbers: words and rows in lent areas, elements and their faces, the boundary, intake, links and
 // groups. Every public function is total, and its contract is an equation with a definition of
 // specs/.
+#![tactic(auto)]
+
 pub mod about;
 pub mod boundary;
 pub mod element;

@@ -19,7 +19,7 @@ use crate::vertex::tet_at;
 use crate::words::clear_from;
 
 // How many bad elements, and how many rows.
-#[derive(Drop)]
+#[derive(Clone, Copy)]
 pub struct Listed {
     pub elements: usize,
     pub rows: usize,

@@ -9,7 +9,7 @@ use geometry::point::{Point, determinant, norm, sub};
 use geometry::score::{is_bad, score};
 
 // Whether the determinant of an element is above 0, and then its score, else 0.
-#[derive(Drop)]
+#[derive(Clone, Copy)]
 pub struct Measured {
     pub above: bool,
     pub score: f64,

@@ -68,7 +68,7 @@ fn vertex_by(ma: u64, mb: u64, mx: u64, a: bool, b: bool, both: bool, ab: bool) 
 }
 
 // What the tests by masks read: the ends of the edge, their strata, and whether some boundary face has both.
-#[derive(Drop)]
+#[derive(Clone, Copy)]
 struct Edge {
     a: u32,
     b: u32,

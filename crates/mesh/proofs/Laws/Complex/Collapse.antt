@@ -9,7 +9,7 @@ use Rattle.mesh.specs.Complex.{mem, sub, within, keep, up_to, faces, Nodup, Sub}
 use Rattle.mesh.specs.inside.Complex.{star, IsElement, Proper, SameCount}
 use Rattle.mesh.specs.inside.Moves.{collapse, Collapsible}
 use Rattle.mesh.specs.Feature.{onto}
-use Rattle.mesh.proofs.Laws.Complex.Sets.{split, clash, nope, same, or_cases, or_left, or_right, and-fst, and-snd, mem-here, mem-there, mem-cases, mem-nil, out, out-head, apart, Sub-cons, Sub-both, Sub-tail, sub-elim, sub-intro, within-elim, within-intro, within-mono, rm, rm-out, rm-mem, rm-sub, rm-length, rm-nodup, short}
+use Rattle.mesh.proofs.Laws.Complex.Sets.{split, clash, nope, same, or_cases, or_left, or_right, and-fst, and-snd, mem-here, mem-there, mem-cases, mem-nil, out, out-head, apart, Sub-cons, Sub-both, Sub-tail, sub-elim, sub-intro, within-elim, within-intro, within-mono, rm, rm-out, rm-mem, rm-sub, rm-length, rm-nodup}
 use Rattle.mesh.proofs.Laws.Complex.Sums.{bit, total, ind, total-cong, total-add, total-zero, faces-total, Sym, Sym-ind, first, first_head}
 use Rattle.mesh.proofs.Laws.Complex.Lists.{keep-elim, keep-intro, map-elim, map-intro}
 use Rattle.mesh.proofs.Laws.Complex.Tets.{up_to-mem, up_to-nodup, tet-of, whole, total-four, over}

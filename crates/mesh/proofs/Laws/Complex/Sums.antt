@@ -1,6 +1,6 @@
 -- Sums over the subsets of k vertices: the number of faces is such a sum, and a sum splits at a vertex.
 -- Assumes nothing.
-use Rattle.std.proofs.Common.{◌≡◌, ℕ, zero, suc, ◌+◌, Bool, true, false, eqb, List, [], ◌∷◌, ◌++◌, map, length, refl, ap, ◌∙◌, ap₂, inl, inr, arith, eqb-true}
+use Rattle.std.proofs.Common.{◌≡◌, ℕ, zero, suc, ◌+◌, Bool, true, false, eqb, List, [], ◌∷◌, ◌++◌, map, length, refl, ap, ◌∙◌, ap₂, inl, inr, arith, eqb-true, sym}
 use borrow.Author.Tests.{eqb-false}
 use Rattle.mesh.specs.Complex.{mem, within, keep, choose, up_to, faces, Nodup, Sub}
 use Rattle.mesh.proofs.Laws.Complex.Sets.{split, clash, nope, same, mem-here, mem-there, mem-cases, mem-nil, Sub-cons, Sub-both, rm, rm-none, rm-nodup, within-mono}
@@ -101,7 +101,7 @@ pub first : (a : ℕ) (vs : List ℕ) → Nodup vs → mem a vs ≡ true → (k 
 first a [] d m k f s = absurd (mem-nil a m)
 first a (v ∷ vs) d m k f s =
     elim (split (eqb a v)) [
-      | inl e ↦ rw e (rw (eqb-true a v e) (rw (rm-none v vs d.0) refl))
+      | inl e ↦ let q = eqb-true a v e in rw e (ap (λ (u : List ℕ). total k u f) (ap₂ ◌∷◌ (sym q) (sym (ap (λ (u : ℕ). rm u vs) q ∙ rm-none v vs d.0))))
       | inr e ↦ rw e
           (first_head k v f (first a vs d.1 (elim (mem-cases a v vs m) [ inl p ↦ absurd (eqb-false a v e p) | inr p ↦ p ])) s
           ∙ swap-first k v a (rm a vs) f (rm-nodup a vs d.1) s)

@@ -1,5 +1,5 @@
 -- The area of ranks and vertices: rows listed, sorted, and read again. Assumes nothing.
-use Rattle.std.proofs.Common.{◌≡◌, ℕ, zero, suc, ◌+◌, ◌-◌, ◌*◌, ◌<◌, ◌≤◌, true, false, leb, List, [], ◌∷◌, ◌++◌, map, length, drop, set, replicate, sym, refl, ap, ◌∙◌, ap₂, arith, drop-drop, le-leb, leb-true}
+use Rattle.std.proofs.Common.{◌≡◌, ℕ, zero, suc, ◌+◌, ◌*◌, ◌<◌, ◌≤◌, true, false, leb, List, [], ◌∷◌, ◌++◌, map, length, drop, set, replicate, sym, refl, ap, ◌∙◌, ap₂, arith, drop-drop, le-leb, leb-true}
 use lib.Ieee.{Float}
 use lib.Seq.{paste, sets-eq}
 use borrow.Author.Tests.{lt-leb}

@@ -54,7 +54,7 @@ sum-rm : (f : ℕ → ℕ) (a : ℕ) (vs : List ℕ) → Nodup vs → mem a vs �
 sum-rm f a [] d m = absurd (mem-nil a m)
 sum-rm f a (v ∷ vs) d m =
     elim (split (eqb a v)) [
-      | inl h ↦ let e = eqb-true a v h in rw h (rw e (rw (rm-none v vs d.0) refl))
+      | inl h ↦ let e = eqb-true a v h in rw h (ap₂ ◌+◌ (ap f (sym e)) (ap (sum f) (sym (ap (λ (u : ℕ). rm u vs) e ∙ rm-none v vs d.0))))
       | inr h ↦ rw h (let r = sum-rm f a vs d.1 (elim (mem-cases a v vs m) [ inl e ↦ absurd (eqb-false a v h e) | inr i ↦ i ]) in omega arith)
     ]
 

@@ -8,7 +8,7 @@ use Rattle.mesh.specs.Complex.{mem}
 use Rattle.mesh.specs.Element.{triple}
 use Rattle.mesh.specs.Feature.{onto, Label, label, same_label, labels, features, three_apart, mapped, expected, neighbours, edges_ok, neighbours_ok, feature_ok}
 use Rattle.mesh.specs.Tests.{every}
-use Rattle.mesh.proofs.Laws.Complex.Sets.{split, same, and-fst, and-snd, mem-here, mem-there, mem-cases, mem-nil}
+use Rattle.mesh.proofs.Laws.Complex.Sets.{split, same, and-fst, and-snd, mem-there, mem-cases, mem-nil, or_left}
 use Rattle.mesh.proofs.Laws.Link.Members.{Alike, Decides, kept-alike, every-alike, same_set-alike}
 
 -- the test of labels is equality
@@ -39,7 +39,7 @@ mem-member {n} (x ∷ xs) m = elim (mem-cases n x xs m) [ inl e ↦ Memᴰ.head 
 
 pub member-mem : {n : ℕ} (xs : List ℕ) → Memᴰ n xs → mem n xs ≡ true
 member-mem [] m = absurd (Memᴰ.not-nil m)
-member-mem {n} (x ∷ xs) m = elim (Memᴰ.cases_cons m) [ inl e ↦ rw e (mem-here x xs) | inr i ↦ mem-there n x xs (member-mem xs i) ]
+member-mem {n} (x ∷ xs) m = elim (Memᴰ.cases_cons m) [ inl e ↦ or_left (mem n xs) (eq-eqb n x e) | inr i ↦ mem-there n x xs (member-mem xs i) ]
 
 mem-alike : (n : ℕ) (xs ys : List ℕ) → Alike xs ys → mem n xs ≡ mem n ys
 mem-alike n xs ys h = same (λ m. member-mem ys ((h n).0 (mem-member xs m))) (λ m. member-mem xs ((h n).1 (mem-member ys m)))

@@ -9,7 +9,7 @@ use Rattle.mesh.specs.declared.element.Triple.{Triple}
 use Rattle.mesh.specs.Complex.{mem, within, keep, Nodup, Sub}
 use Rattle.mesh.specs.Element.{triple, corners_of}
 use Rattle.mesh.specs.Feature.{onto, Label, label, bits_from, bits_of, shared, labels_with, labels_under, labels, features, three_apart, mapped, expected}
-use Rattle.mesh.proofs.Laws.Complex.Sets.{split, and-fst, and-snd, mem-here, mem-there, mem-cases, mem-nil, out-head, out-tail, Sub-cons, within-elim, within-intro, keep-mem, rm, rm-mem, rm-length, short}
+use Rattle.mesh.proofs.Laws.Complex.Sets.{split, and-fst, and-snd, mem-here, mem-there, mem-cases, mem-nil, out-head, out-tail, Sub-cons, within-elim, within-intro, keep-mem, rm, rm-mem, rm-length, short, or_left}
 use Rattle.mesh.proofs.Laws.Link.Members.{kept-elim, kept-intro}
 use Rattle.mesh.proofs.Laws.Link.Simplices.{rising, rising-head, rising-tail, rising-cons}
 use Rattle.mesh.proofs.Laws.Link.Keys.{three-nodup, flip≢}
@@ -229,7 +229,7 @@ pub onto-member : (a b z : ℕ) (e : List ℕ) → mem z e ≡ true → mem (ont
 onto-member a b z [] h = absurd (mem-nil z h)
 onto-member a b z (y ∷ e) h =
     elim (mem-cases z y e h) [
-      | inl p ↦ rw p (mem-here (onto a b y) (map (onto a b) e))
+      | inl p ↦ or_left (mem (onto a b z) (map (onto a b) e)) (eq-eqb (onto a b z) (onto a b y) (ap (onto a b) p))
       | inr p ↦ mem-there (onto a b z) (onto a b y) (map (onto a b) e) (onto-member a b z e p)
     ]
 

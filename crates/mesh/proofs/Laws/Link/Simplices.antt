@@ -1,6 +1,6 @@
 -- Simplices as lists of vertices in rising order: there is one such list for each set, sorting gives it, and `choose` lists those
 -- within a rising list. Assumes nothing.
-use Rattle.std.proofs.Common.{◌≡◌, ℕ, zero, suc, ◌<◌, ◌≤◌, Bool, true, false, ◌&&◌, ◌||◌, eqb, ltb, leb, ◌≢◌, List, [], ◌∷◌, ◌++◌, map, length, sym, refl, ap, ◌∙◌, subst, ap₂, inl, inr, arith, ltb-true, lt-ltb, eqb-true, leb-false, leb-true}
+use Rattle.std.proofs.Common.{◌≡◌, ℕ, zero, suc, ◌<◌, ◌≤◌, Bool, true, false, ◌&&◌, ◌||◌, eqb, ltb, leb, ◌≢◌, List, [], ◌∷◌, ◌++◌, map, length, sym, refl, ap, ◌∙◌, subst, ap₂, inl, inr, arith, ltb-true, lt-ltb, eqb-true, leb-false, leb-true, eq-eqb}
 use mathlib.Core.List.Memᴰ
 use mathlib.Core.List.{Memᴰ}
 use borrow.Author.Tests.{eqb-false}
@@ -8,7 +8,7 @@ use Rattle.mesh.specs.Complex.{mem, choose, Nodup, Sub}
 use Rattle.mesh.specs.Tests.{every}
 use Rattle.mesh.specs.Sort.{insert, sort}
 use Rattle.mesh.specs.Link.{subsets}
-use Rattle.mesh.proofs.Laws.Complex.Sets.{split, nope, and-fst, and-snd, mem-here, mem-there, mem-cases, mem-nil, out-head, out-tail}
+use Rattle.mesh.proofs.Laws.Complex.Sets.{split, nope, and-fst, and-snd, mem-here, mem-there, mem-cases, mem-nil, out-head, out-tail, or_left}
 use Rattle.mesh.proofs.Laws.Bools.{or_swap}
 
 -- each vertex below those behind it
@@ -105,7 +105,7 @@ chosen-elim (suc k) (v ∷ vs) {σ} h m =
           subst (λ s. (length s ≡ suc k) × (rising s ≡ true) × Sub s (v ∷ vs)) c.2 (
             ap suc r.0,
             rising-cons v c.0 (λ y q. rising-head v vs h y (r.2 y q)) r.1,
-            λ x q. elim (mem-cases x v c.0 q) [ inl e ↦ rw e (mem-here v vs) | inr j ↦ mem-there x v vs (r.2 x j) ],
+            λ x q. elim (mem-cases x v c.0 q) [ inl e ↦ or_left (mem x vs) (eq-eqb x v e) | inr j ↦ mem-there x v vs (r.2 x j) ],
           )
     ]
 

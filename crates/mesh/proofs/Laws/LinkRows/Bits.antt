@@ -48,8 +48,8 @@ count-both (suc d) k m n h =
     let o' : ones (bit_and m n) ≡ bit_and m n % 2 + ones (bit_and (m / 2) (n / 2)) = o ∙ ap (λ (u : ℕ). bit_and m n % 2 + ones u) q in
     elim (digit m) [
       | inl x ↦ elim (digit n) [
-        | inl y ↦ rw (eq-eqb (m % 2) 1 x) (rw t (rw (eq-eqb (n % 2) 1 y) (ap suc (rw (eq-eqb (n % 2) 1 y) at (ap length b) ∙ ih) ∙ (let r : suc (ones (bit_and (m / 2) (n / 2))) ≡ ones (bit_and m n) = omega arith in r))))
-        | inr y ↦ rw (eq-eqb (m % 2) 1 x) (rw t (rw (ne_eqb (n % 2) 1 (λ e. omega arith)) (ih ∙ (let r : ones (bit_and (m / 2) (n / 2)) ≡ ones (bit_and m n) = omega arith in r))))
+        | inl y ↦ rw (eq-eqb (m % 2) 1 x) (rw t (rw (eq-eqb (n % 2) 1 y) (ap suc (ap length b ∙ ih) ∙ (let r : suc (ones (bit_and (m / 2) (n / 2))) ≡ ones (bit_and m n) = omega arith in r))))
+        | inr y ↦ rw (eq-eqb (m % 2) 1 x) (rw t (rw (ne_eqb (n % 2) 1 (λ e. omega arith)) (ap length b ∙ ih ∙ (let r : ones (bit_and (m / 2) (n / 2)) ≡ ones (bit_and m n) = omega arith in r))))
       ]
       | inr x ↦ rw (ne_eqb (m % 2) 1 (λ e. omega arith)) (ap length b ∙ ih ∙ (let r : ones (bit_and (m / 2) (n / 2)) ≡ ones (bit_and m n) = omega arith in r))
     ]

@@ -1,8 +1,6 @@
 -- The bad elements gathered behind the slots, in their order. Assumes nothing.
 use Rattle.std.proofs.Common.{◌≡◌, ℕ, ◌+◌, ◌*◌, ◌<◌, ◌≤◌, Bool, true, false, cond, List, [], ◌∷◌, ◌++◌, map, length, take, sym, refl, ap, ◌∙◌, subst, inl, inr, append-nil, add-one, arith, length-append, take_all, take-suc, eq-eqb, ne_eqb}
 use mathlib.Core.List.{map-append}
-use lib.Ieee.{Float}
-use lib.ListN.{get_or-eq_default}
 use lib.Seq.{paste}
 use Rattle.geometry.specs.declared.point.Point.{Point}
 use Rattle.mesh.specs.declared.element.Tet.{Tet}

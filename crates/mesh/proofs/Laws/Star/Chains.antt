@@ -1,11 +1,11 @@
 -- Chains: how long they can be, and that words elsewhere do not matter to them. Assumes nothing.
-use Rattle.std.proofs.Common.{◌≡◌, ℕ, zero, suc, ◌+◌, ◌/◌, ◌<◌, ◌≤◌, true, ◌≢◌, ◌⊎◌, List, [], ◌∷◌, ◌++◌, length, sym, refl, ap, ◌∙◌, subst, ap₂, inl, inr, ⊎_elim, arith, length-append, le-ltb, lt-ltb}
+use Rattle.std.proofs.Common.{◌≡◌, ℕ, zero, suc, ◌+◌, ◌/◌, ◌<◌, ◌≤◌, true, ◌≢◌, ◌⊎◌, List, [], ◌∷◌, ◌++◌, length, sym, refl, ap, ◌∙◌, subst, ap₂, inl, inr, ⊎_elim, arith, length-append, le-ltb, lt-ltb, eq-eqb}
 use Rattle.mesh.specs.declared.star.Index.{Index}
 use Rattle.mesh.specs.Words.{word_at}
 use Rattle.mesh.specs.Complex.{mem, up_to, Nodup}
 use Rattle.mesh.specs.inside.Star.{walk, corner_at, next_of, head_of, chain_length, chain_of, Covers, Chains, Complete, Laid}
 use Rattle.mesh.proofs.Laws.Parts.{side}
-use Rattle.mesh.proofs.Laws.Complex.Sets.{clash, nope, mem-here, mem-there, mem-cases, mem-nil, short}
+use Rattle.mesh.proofs.Laws.Complex.Sets.{clash, nope, mem-here, mem-there, mem-cases, mem-nil, short, or_left}
 use Rattle.mesh.proofs.Laws.Complex.Tets.{up_to-mem}
 use Rattle.mesh.proofs.Laws.Star.Walks.{walk_none, walk-entry, walk_same}
 
@@ -13,7 +13,7 @@ use Rattle.mesh.proofs.Laws.Star.Walks.{walk_none, walk-entry, walk_same}
 
 pub mem-left : (x : ℕ) (a b : List ℕ) → mem x a ≡ true → mem x (a ++ b) ≡ true
 mem-left x [] b h = absurd (mem-nil x h)
-mem-left x (y ∷ a) b h = elim (mem-cases x y a h) [ inl e ↦ rw e (mem-here y (a ++ b)) | inr m ↦ mem-there x y (a ++ b) (mem-left x a b m) ]
+mem-left x (y ∷ a) b h = elim (mem-cases x y a h) [ inl e ↦ or_left (mem x (a ++ b)) (eq-eqb x y e) | inr m ↦ mem-there x y (a ++ b) (mem-left x a b m) ]
 
 pub mem-right : (x : ℕ) (a b : List ℕ) → mem x b ≡ true → mem x (a ++ b) ≡ true
 mem-right x [] b h = h
@@ -23,7 +23,7 @@ pub mem-either : (x : ℕ) (a b : List ℕ) → mem x (a ++ b) ≡ true → (mem
 mem-either x [] b h = inr h
 mem-either x (y ∷ a) b h =
     elim (mem-cases x y (a ++ b) h) [
-      | inl e ↦ inl (rw e (mem-here y a))
+      | inl e ↦ inl (or_left (mem x a) (eq-eqb x y e))
       | inr m ↦ elim (mem-either x a b m) [ inl n ↦ inl (mem-there x y a n) | inr n ↦ inr n ]
     ]
 

@@ -1,6 +1,6 @@
 -- Hanging entries: an index of the entries below p, with p hung, is one of those below p + 1. So building and appending give complete
 -- indexes (`built-complete`, `appended-complete`). Assumes nothing.
-use Rattle.std.proofs.Common.{◌≡◌, ℕ, zero, suc, ◌+◌, ◌-◌, ◌*◌, ◌/◌, ◌<◌, ◌≤◌, Bool, true, false, cond, ◌&&◌, eqb, ltb, ◌≢◌, ◌⊎◌, List, [], ◌∷◌, length, set, replicate, sym, refl, ap, ◌∙◌, subst, ap₂, inl, inr, ⊎_elim, add-zero, add-one, arith, length-set, get_or-set_other, get_or-set_same, ltb-true, lt-ltb, eqb-true, le-leb}
+use Rattle.std.proofs.Common.{◌≡◌, ℕ, zero, suc, ◌+◌, ◌-◌, ◌*◌, ◌/◌, ◌<◌, ◌≤◌, Bool, true, false, cond, ◌&&◌, eqb, ltb, ◌≢◌, ◌⊎◌, List, [], ◌∷◌, length, set, replicate, sym, refl, ap, ◌∙◌, subst, ap₂, inl, inr, ⊎_elim, add-zero, add-one, arith, length-set, get_or-set_other, get_or-set_same, ltb-true, lt-ltb, eqb-true, le-leb, eq-eqb}
 use lib.ListN.{length-replicate, get_or-replicate}
 use borrow.Author.Tests.{eqb-false}
 use Rattle.mesh.specs.declared.star.Index.{Index}
@@ -8,7 +8,7 @@ use Rattle.mesh.specs.Words.{word_at}
 use Rattle.mesh.specs.Complex.{mem, Nodup}
 use Rattle.mesh.specs.inside.Star.{walk, corner_at, next_of, head_of, chain_length, chain_of, Chains, Complete, Laid, Outside, written, set_chain, pushed, hung, hung_all, has_slots, appended, built}
 use Rattle.mesh.proofs.Laws.Parts.{side}
-use Rattle.mesh.proofs.Laws.Complex.Sets.{split, clash, nope, mem-here, mem-there, mem-cases, mem-nil}
+use Rattle.mesh.proofs.Laws.Complex.Sets.{split, clash, nope, mem-there, mem-cases, mem-nil, or_left}
 use Rattle.mesh.proofs.Laws.Star.Walks.{walk-yes, walk_same}
 use Rattle.mesh.proofs.Laws.Star.Written.{length-written, written_below, written_behind, written_at}
 use Rattle.mesh.proofs.Laws.Star.Layout.{laid-yes}
@@ -212,7 +212,7 @@ module _ (x : Index) (s : List ℕ) (p : ℕ) (l : Laid x (length s)) (hp : p / 
             | inr a ↦
                 let z : q ≡ p = omega arith in
                 let w : v ≡ u = ap (corner_at x s) (sym z) ∙ f' in
-                subst (λ (y : ℕ). mem q (chain_of x (pushed x v p s) y) ≡ true) w (rw (pushed-chain x s v p l h hp p c.chains le_refl) (rw z (mem-here p (chain_of x s v))))
+                subst (λ (y : ℕ). mem q (chain_of x (pushed x v p s) y) ≡ true) w (rw (pushed-chain x s v p l h hp p c.chains le_refl) (or_left (mem q (chain_of x s v)) (eq-eqb q p z)))
           ] in
           record {
             chains = subst (λ (u : List ℕ). Chains x u (p + 1)) (sym e) (pushed-chains x s v p l h hp p c.chains le_refl);

@@ -1,5 +1,5 @@
 -- The numbers of the elements that pass a test: which they are, that they rise, and that their elements are those kept. Assumes nothing.
-use Rattle.std.proofs.Common.{◌≡◌, ℕ, zero, suc, ◌+◌, ◌<◌, Bool, true, false, cond, ◌||◌, leb, List, [], ◌∷◌, map, length, get_or, sym, refl, ap, ◌∙◌, subst, ap₂, inl, inr, le_of_suc-le-suc, not-suc-le-zero, add-zero, arith}
+use Rattle.std.proofs.Common.{◌≡◌, ℕ, zero, suc, ◌+◌, ◌<◌, Bool, true, false, cond, ◌||◌, leb, List, [], ◌∷◌, map, length, get_or, sym, refl, ap, ◌∙◌, subst, ap₂, inl, inr, le_of_suc-le-suc, not-suc-le-zero, add-zero, arith, eq-eqb}
 use borrow.Author.Tests.{lt-leb}
 use Rattle.mesh.specs.declared.element.Tet.{Tet}
 use Rattle.mesh.specs.inside.Sort.{before, headed, ordered}
@@ -31,7 +31,7 @@ module _ (p : Tet → Bool) where
   pub pass-in : (ts : List Tet) (i d : ℕ) (z : Tet) → d < length ts → p (get_or ts d z) ≡ true → mem (i + d) (pass_from p i ts) ≡ true
   unfolding pass_from
   pass-in [] i d z h a = absurd (not-suc-le-zero h)
-  pass-in (t ∷ ts) i zero z h a = rw (a, add-zero) (mem-here i (pass_from p (i + 1) ts))
+  pass-in (t ∷ ts) i zero z h a = rw a (or_left (mem (i + 0) (pass_from p (i + 1) ts)) (eq-eqb (i + 0) i (add-zero i)))
   pass-in (t ∷ ts) i (suc d) z h a = go (p t) (pass-in ts (i + 1) d z (le_of_suc-le-suc h) a)
     where
       n : i + 1 + d ≡ i + suc d

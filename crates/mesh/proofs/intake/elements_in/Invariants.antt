@@ -1,0 +1,11 @@
+-- `mesh::intake::elements_in` meets its contract. The invariant: what is left of the list from e on is the whole. Assumes nothing.
+use Rattle.std.proofs.Common.{◌-◌, ◌≤◌}
+use Rattle.mesh.proofs.Laws.Intake.Every.{TetsLeft}
+use Rattle.mesh.specs.Intake.{well_numbered}
+use Rattle.mesh.proofs.intake.elements_in.Given as goal
+
+abbrev pub invariant-loop-e : goal.invariant-loop-e
+invariant-loop-e l = (l.e ≤ l.n) × TetsLeft (well_numbered l.vertices) l.n l.elements l.e
+
+abbrev pub decreases-loop-e : goal.decreases-loop-e
+decreases-loop-e l = l.n - l.e

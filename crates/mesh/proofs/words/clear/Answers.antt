@@ -1,0 +1,13 @@
+-- `mesh::words::clear` meets its contract. The invariant: zeros below i, what was there from i on. Assumes nothing.
+use Rattle.std.proofs.Common.{refl, arith, length-set}
+use Rattle.mesh.proofs.Laws.Parts.{fill_more, fill_done}
+use Rattle.mesh.proofs.words.clear.Goals as goal
+
+pub loop-i-init : goal.loop-i-init
+loop-i-init c = (omega arith, refl, refl)
+
+pub loop-i-preserved : goal.loop-i-preserved
+loop-i-preserved c = (omega arith, simp length-set c.loop-i.invariant.1, fill_more c.loop-i.i 0 c.args.s.now c.loop-i.s c.loop-i.invariant.2 (omega arith))
+
+pub returns : goal.returns
+returns c = fill_done c.loop-i.i 0 c.args.s.now c.loop-i.s c.loop-i.invariant.2 (omega arith)
