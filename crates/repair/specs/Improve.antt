@@ -1,6 +1,6 @@
 -- `improve` on values (document 01, "Element and surface"; `improve` of repair.rs). Elements are those still there, in number order: one
 -- that goes is dropped at once, and the others keep their places. Definitions only.
-use Rattle.std.specs.Prelude.{ℕ, zero, suc, ◌+◌, Bool, true, false, not, cond, ◌&&◌, ◌||◌, List, [], ◌∷◌, ◌++◌, map, eqb, ltb, Float, length, get_or}
+use Rattle.std.specs.Prelude.{ℕ, zero, suc, Bool, not, cond, ◌&&◌, ◌||◌, List, [], ◌∷◌, ◌++◌, map, eqb, ltb, Float, length, get_or}
 use Rattle.std.specs.Float.Ieee.{lt}
 use Rattle.geometry.specs.declared.bounds.Options.{Options}
 use Rattle.geometry.specs.Float.{◌+₆₄◌, ◌*₆₄◌, smaller}

@@ -5,8 +5,6 @@ use Rattle.std.proofs.Math.Option.{Option, none, some}
 use Rattle.geometry.specs.declared.point.Point.{Point}
 use Rattle.geometry.specs.declared.bounds.Options.{Options}
 use Rattle.geometry.specs.declared.field.Field.{Field}
-use Rattle.mesh.specs.declared.element.Triple.{Triple}
-use Rattle.mesh.specs.declared.element.Tet.{Tet}
 use Rattle.mesh.specs.declared.intake.Sizes.{Sizes}
 use Rattle.mesh.specs.Words.{points_of}
 use Rattle.mesh.specs.Element.{tets, triples, all_vertices, all_corners}

@@ -34,7 +34,7 @@ use mesh::star::Index;
 use mesh::words::{clear, clear_floats};
 
 // What the rounds leave: how many vertices are replaced, how many elements there are, and where in the work slice they stand.
-#[derive(Drop)]
+#[derive(Clone, Copy)]
 struct Rest {
     replaced: usize,
     elements: usize,

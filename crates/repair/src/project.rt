@@ -22,14 +22,14 @@ use geometry::field::Field;
 use geometry::point::{Point, sub};
 
 // The point found, or nothing.
-#[derive(Drop)]
+#[derive(Clone, Copy)]
 pub enum Projected {
     Found(Point),
     Nothing,
 }
 
 // What a step hands on: the answer, or a point.
-#[derive(Drop)]
+#[derive(Clone, Copy)]
 enum Step {
     Ended(Projected),
     Onward(Point),

@@ -12,7 +12,7 @@ use mesh::measure::{measured_of, score_of};
 use mesh::words::word;
 
 // The lowest score so far, how many elements are bad, and whether all were allowed.
-#[derive(Drop)]
+#[derive(Clone, Copy)]
 pub struct Tally {
     pub lowest: f64,
     pub bad: usize,

@@ -39,7 +39,7 @@ use mesh::words::{clear, copy_into, word};
 const ELEMENT_WORDS: usize = 65;
 
 // The rows of a group, among the sorted ones: the first of them, and how many.
-#[derive(Drop)]
+#[derive(Clone, Copy)]
 struct Run {
     first: usize,
     size: usize,

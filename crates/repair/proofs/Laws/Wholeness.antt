@@ -1,33 +1,29 @@
 -- Demand 3, for every list of calls: `wholeness` proves the statement of specs/Wholeness.antt. Each pass keeps its parts
 -- (Laws/Improve, Laws/Smooth, Laws/Flip), and a list of calls is one after the other (Laws/Improve/Calls). Assumes nothing.
 use mathlib.Core.Path.{◌≡◌, sym, subst, subst₂}
-use mathlib.Core.Bool.{Bool, true, ◌&&◌}
+use mathlib.Core.Bool.{true}
 use mathlib.Core.List.{map, Memᴰ}
-use Prim.Native.Nat.{ℕ, ◌≤◌}
+use Prim.Native.Nat.{◌≤◌}
 use native.Mathlib.Nat.{le_trans}
-use lib.Ieee.{lt}
 use lib.ListN.{take}
 use Rattle.geometry.specs.declared.bounds.Options.{Options}
 use Rattle.geometry.specs.Literals.{tenth}
 use Rattle.geometry.specs.Units.{units_of}
-use Rattle.mesh.specs.declared.element.Tet.{Tet}
 use Rattle.mesh.specs.declared.element.Triple.{Triple}
 use Rattle.mesh.specs.inside.Complex.{Proper}
 use Rattle.mesh.specs.Element.{vertices_of, key_of}
 use Rattle.mesh.specs.Boundary.{all_faces, with_key, OneOrTwo}
-use Rattle.mesh.specs.Intake.{sized_point, bounds_in, options_in, intake}
+use Rattle.mesh.specs.Intake.{sized_point, bounds_in, options_in}
 use Rattle.mesh.specs.Measure.{measure, score_of, lowest_of}
 use Rattle.mesh.proofs.Laws.Bools.{and_left, and_right}
-use Rattle.repair.specs.Mesh.{Mesh, made}
-use Rattle.repair.specs.Smooth
-use Rattle.repair.specs.Flip
-use Rattle.repair.specs.Step.{State, Call, mesh_of, given, lengths_of}
-use Rattle.repair.specs.Wholeness.{Exact, Wholeness, StaysClosed}
-use Rattle.repair.proofs.Laws.Improve.Scores.{Floor, floor-of, smaller-right, tenth-exact}
+use Rattle.repair.specs.Mesh.{Mesh}
+use Rattle.repair.specs.Step.{mesh_of, given, lengths_of}
+use Rattle.repair.specs.Wholeness.{Wholeness, StaysClosed}
+use Rattle.repair.proofs.Laws.Improve.Scores.{floor-of, smaller-right, tenth-exact}
 use Rattle.repair.proofs.Laws.Improve.Points.{points_near}
 use Rattle.mesh.proofs.Laws.Boundary.Meaning.{fine}
-use Rattle.repair.proofs.Laws.Improve.Intake.{Passed, intake-passed}
-use Rattle.repair.proofs.Laws.Improve.Keeps.{Sound, Keeps, floor_units}
+use Rattle.repair.proofs.Laws.Improve.Intake.{intake-passed}
+use Rattle.repair.proofs.Laws.Improve.Keeps.{floor_units}
 use Rattle.repair.proofs.Laws.Improve.Buffers.{intake-sound, committed-whole}
 use Rattle.repair.proofs.Laws.Improve.Calls.{SmoothKeeps, FlipKeeps, wholeness-by}
 use Rattle.repair.proofs.Laws.Improve.Closed.{stays_closed}

@@ -1,13 +1,13 @@
 // What the trials of `flip` hand on: how many slots there are and how many flips were made; the numbers of two or three slots; how much
 // is listed at the start.
 
-#[derive(Drop)]
+#[derive(Clone, Copy)]
 pub struct Tried {
     pub slots: u32,
     pub flips: usize,
 }
 
-#[derive(Drop)]
+#[derive(Clone, Copy)]
 pub struct Places {
     pub a: u32,
     pub b: u32,
@@ -15,7 +15,7 @@ pub struct Places {
 }
 
 // How many shared faces, bad elements and edges of those stand in their areas.
-#[derive(Drop)]
+#[derive(Clone, Copy)]
 pub struct Lists {
     pub faces: usize,
     pub bad: usize,

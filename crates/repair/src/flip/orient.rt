@@ -13,7 +13,7 @@ use mesh::element::Tet;
 use mesh::measure::{determinant_of, is_above, is_below, score_of};
 
 // Two elements, or three where `count` is 3.
-#[derive(Drop)]
+#[derive(Clone, Copy)]
 pub struct Trio {
     pub count: usize,
     pub a: Tet,

@@ -23,7 +23,7 @@ use mesh::vertex::point_at;
 use mesh::words::{high_half, low_half, put_word, wide, word};
 
 // A group, as rows of the sorted ones: its first row and how many there are.
-#[derive(Drop)]
+#[derive(Clone, Copy)]
 struct Run {
     first: usize,
     size: usize,

@@ -14,7 +14,7 @@ use geometry::float::absolute;
 use geometry::point::Point;
 
 // Usable: the magnitude is finite and not 0, and the value is finite.
-#[derive(Drop)]
+#[derive(Clone, Copy)]
 pub(crate) struct Row {
     pub usable: bool,
     pub value: f64,

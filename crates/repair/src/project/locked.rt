@@ -8,7 +8,7 @@ use crate::project::finite::larger;
 use geometry::bounds::Bounds;
 use geometry::point::Point;
 
-#[derive(Drop)]
+#[derive(Clone, Copy)]
 pub(crate) struct Locked {
     pub x: bool,
     pub y: bool,

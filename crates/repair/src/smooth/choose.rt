@@ -14,7 +14,7 @@ use geometry::point::Point;
 use mesh::intake::Settings;
 
 // The best so far: the lowest score with it, and the point where there is one.
-#[derive(Drop)]
+#[derive(Clone, Copy)]
 pub struct Best {
     pub lowest: f64,
     pub found: bool,
@@ -22,7 +22,7 @@ pub struct Best {
 }
 
 // What the candidates start from: the first vertex, as it is and where hi counts as lo; how many neighbours it has, and their mean.
-#[derive(Drop)]
+#[derive(Clone, Copy)]
 pub struct Start {
     pub original: Point,
     pub origin: Point,

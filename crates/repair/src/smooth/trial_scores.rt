@@ -21,7 +21,7 @@ use mesh::words::word;
 
 // Where the group and the elements about it stand in the work: the rows of the group, its first vertex at `group`, and at `area` the
 // numbers of `about` elements.
-#[derive(Drop)]
+#[derive(Clone, Copy)]
 pub struct Site {
     pub vertices: usize,
     pub group: usize,
@@ -31,7 +31,7 @@ pub struct Site {
 }
 
 // Whether every determinant is above 0 and the lowest score above a given bar, and then the lowest score.
-#[derive(Drop)]
+#[derive(Clone, Copy)]
 pub struct Trial {
     pub better: bool,
     pub lowest: f64,

@@ -10,7 +10,7 @@ use lib.Dec.{eqb}
 use lib.ListN.{length}
 use Rattle.mesh.specs.Complex.{mem, keep, up_to, Nodup}
 use Rattle.mesh.proofs.Laws.Complex.Tets.{up_to-mem}
-use Rattle.mesh.proofs.Laws.Complex.Sets.{split, clash, nope, mem-here, mem-there, mem-cases, mem-nil, keep-mem, keep-nodup, short}
+use Rattle.mesh.proofs.Laws.Complex.Sets.{split, clash, nope, or_left, mem-there, mem-cases, mem-nil, keep-mem, keep-nodup, short}
 use Rattle.mesh.proofs.Laws.Star.Chains.{length-up_to}
 use Rattle.repair.specs.Improve.{first_uses, place_of}
 
@@ -107,7 +107,7 @@ place-last (u ∷ us) v h =
     ]
   where
     mem-at : (u v : ℕ) (us : List ℕ) → u ≡ v → mem v (u ∷ us) ≡ true
-    mem-at u v us e = rw (sym e) (mem-here u us)
+    mem-at u v us e = or_left (mem v us) (eq-eqb v u (sym e))
 
 -- ---- marks
 

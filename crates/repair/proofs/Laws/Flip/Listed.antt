@@ -1,7 +1,7 @@
 -- What is listed: a listed face has its three vertices in rising order, and a listed edge two different ones. Assumes nothing.
 use mathlib.Core.Path.{◌≡◌, refl, ap}
 use mathlib.Core.Logic.{◌≢◌}
-use mathlib.Core.Bool.{Bool, true, false, not, cond}
+use mathlib.Core.Bool.{Bool, true, not}
 use mathlib.Core.List.{List, [], ◌∷◌, map, Memᴰ}
 use Prim.Native.Nat.{ℕ, min, max}
 use native.Mathlib.Omega.{arith}
@@ -10,13 +10,13 @@ use borrow.Author.Tests.{ne_eqb}
 use Rattle.mesh.specs.declared.element.Pair.{Pair}
 use Rattle.mesh.specs.declared.element.Triple.{Triple}
 use Rattle.mesh.specs.declared.element.Tet.{Tet}
-use Rattle.mesh.specs.Sort.{sort, unique, unique_after}
+use Rattle.mesh.specs.Sort.{sort}
 use Rattle.mesh.specs.Complex.{keep}
 use Rattle.mesh.specs.Tests.{every}
 use Rattle.mesh.specs.Element.{edge, all_edges, faces_of, corners_of, key_of, same_pair, le_pair}
 use Rattle.mesh.specs.Boundary.{same_triple, le_triple, all_faces}
 use Rattle.mesh.specs.Measure.{Measure, is_bad}
-use Rattle.mesh.proofs.Laws.Complex.Sets.{and-fst, and-snd, out-head, out-tail}
+use Rattle.mesh.proofs.Laws.Complex.Sets.{out-head, out-tail}
 use Rattle.mesh.proofs.Laws.Link.Members.{kept-elim}
 use Rattle.mesh.proofs.Laws.Link.Simplices.{rising}
 use Rattle.mesh.proofs.Laws.Link.Keys.{Fours, key-rising, face-nodup}

@@ -13,7 +13,7 @@ use Rattle.geometry.specs.Float.{◌+₆₄◌, total_from, total}
 use Rattle.geometry.specs.Literals.{e_10}
 use Rattle.mesh.specs.declared.element.Tet.{Tet}
 use Rattle.mesh.specs.Tests.{every}
-use Rattle.mesh.specs.Measure.{Measure, measure, determinant_of, volume_of, bad_count, lowest_of}
+use Rattle.mesh.specs.Measure.{Measure, determinant_of, volume_of, bad_count, lowest_of}
 use Rattle.repair.specs.declared.flip.orient.Trio.{Trio}
 use Rattle.repair.specs.declared.quality.Tally.{Tally}
 use Rattle.repair.specs.Flip.{oriented, accepted}

@@ -8,7 +8,7 @@ use native.Mathlib.Nat.{add-zero}
 use native.Mathlib.Omega.{arith}
 use lib.Dec.{eqb, ltb}
 use lib.Ieee.{Float}
-use lib.ListN.{length, drop, length-map, get_or-eq_default}
+use lib.ListN.{length, drop, get_or-eq_default}
 use lib.Seq.{get_or-drop, drop-drop}
 use borrow.Author.Tests.{eqb-true, ltb-true}
 use Rattle.geometry.specs.declared.bounds.Options.{Options}
@@ -20,7 +20,7 @@ use Rattle.mesh.specs.Words.{word_at, points_of}
 use Rattle.mesh.specs.Complex.{mem, keep}
 use Rattle.mesh.specs.Tests.{every, nodup, under, any}
 use Rattle.mesh.specs.Sets.{among}
-use Rattle.mesh.specs.Element.{pair, same_pair, tets, vertices_of}
+use Rattle.mesh.specs.Element.{same_pair, tets, vertices_of}
 use Rattle.mesh.specs.Intake.{well_numbered}
 use Rattle.mesh.specs.inside.List.{gone}
 use Rattle.mesh.specs.inside.Star.{gone_word, Complete}
@@ -30,7 +30,6 @@ use Rattle.mesh.proofs.Laws.Bools.{and_left, and_right}
 use Rattle.mesh.proofs.Laws.Complex.Sets.{clash, nope, or_cases, or_right, mem-cases, mem-nil}
 use Rattle.mesh.proofs.Laws.Link.Simplices.{every-mem}
 use Rattle.mesh.proofs.Laws.List.Bad.{keep-few}
-use Rattle.mesh.proofs.Laws.Star.Chains.{few-below}
 use Rattle.mesh.proofs.Laws.Star.Numbers.{any_out}
 use Rattle.mesh.proofs.Laws.Star.Calls.{Answered}
 use Rattle.mesh.proofs.Laws.About.Members.{entries-few}

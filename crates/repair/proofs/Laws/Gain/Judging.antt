@@ -1,6 +1,6 @@
 -- Images judged one after the other up to the first that is not allowed, and what the collapse gains by them. Assumes nothing.
 use mathlib.Core.Path.{◌≡◌, refl, sym, ap, ap₂, subst, ◌∙◌}
-use mathlib.Core.Bool.{Bool, true, false, not, cond}
+use mathlib.Core.Bool.{Bool, true, false, cond}
 use mathlib.Core.List.{List, [], ◌∷◌, map}
 use Prim.Native.Nat.{ℕ, zero, suc, ◌+◌, ◌-◌, ◌*◌, ◌≤◌, ◌<◌}
 use native.Mathlib.Nat.{add-zero, not-suc-le-zero}
@@ -11,7 +11,7 @@ use lib.ListN.{length, drop}
 use lib.Seq.{get_or-drop, drop-drop}
 use borrow.Author.Tests.{lt-ltb, le-ltb, eq-eqb, ne_eqb}
 use Rattle.geometry.specs.declared.point.Point.{Point}
-use Rattle.geometry.specs.Float.{◌+₆₄◌, ◌*₆₄◌, zero64, smaller}
+use Rattle.geometry.specs.Float.{◌+₆₄◌, ◌*₆₄◌, smaller}
 use Rattle.geometry.specs.Literals.{tenth, e_12, thousandth_more}
 use Rattle.geometry.specs.Score.{lowest, lowest_from}
 use Rattle.mesh.specs.declared.element.Pair.{Pair}

@@ -5,10 +5,10 @@ use mathlib.Core.Logic.{◌⊎◌, inl, inr}
 use mathlib.Core.Bool.{true, false, not, ◌&&◌, ◌||◌}
 use mathlib.Core.List.Memᴰ
 use mathlib.Core.List.{List, [], ◌∷◌, ◌++◌, map, Memᴰ}
-use Prim.Native.Nat.{ℕ, zero, suc, ◌+◌, ◌≤◌, ◌<◌}
+use Prim.Native.Nat.{ℕ, zero, suc, ◌≤◌, ◌<◌}
 use native.Mathlib.Nat.{le_of_eq, lt_of_lt_of_le}
 use native.Mathlib.Omega.{arith}
-use borrow.Author.Tests.{eqb-true, ne_eqb, not-true}
+use borrow.Author.Tests.{eqb-true, eq-eqb, ne_eqb, not-true}
 use lib.Dec.{eqb}
 use lib.ListN.{length, length-append, length-map}
 use Rattle.geometry.specs.declared.bounds.Options.{Options}
@@ -22,7 +22,7 @@ use Rattle.mesh.specs.Element.{vertices_of}
 use Rattle.mesh.specs.Words.{numbers}
 use Rattle.mesh.specs.Group.{same_ranks, rank_of, group_of}
 use Rattle.mesh.specs.Measure.{Measure, measure}
-use Rattle.mesh.proofs.Laws.Complex.Sets.{split, nope, clash, or_cases, and-fst, and-snd, mem-here, mem-there, mem-cases, mem-nil, keep-mem, keep-nodup}
+use Rattle.mesh.proofs.Laws.Complex.Sets.{split, nope, clash, or_cases, or_left, and-fst, and-snd, mem-here, mem-there, mem-cases, mem-nil, keep-mem, keep-nodup}
 use Rattle.repair.specs.Mesh.{Mesh, made, has}
 use Rattle.repair.specs.Improve.{State, cap_of, stratum_rule, active_group, partner, partners, pair_off, pair_ok, about, collapsed, gains, listed_edges, pairs_for, may_go, go, try_edge, try_edges, round, rounds, improve}
 use Rattle.repair.proofs.Laws.Improve.Single.{Distinct, size, ranks-refl}
@@ -69,7 +69,7 @@ module _ (o : Options) (m : Mesh) where
       elim (mem-either x (firsts (partner o m v ws)) (firsts (partners o m vs ws)) k) [
         | inl q ↦ elim (partner-firsts v ws) [
           | inl e ↦ absurd (mem-nil x (subst (λ l. mem x l ≡ true) e q))
-          | inr e ↦ elim (mem-cases x v [] (subst (λ l. mem x l ≡ true) e q)) [ inl r ↦ rw r (mem-here v vs) | inr r ↦ absurd (mem-nil x r) ]
+          | inr e ↦ elim (mem-cases x v [] (subst (λ l. mem x l ≡ true) e q)) [ inl r ↦ or_left (mem x vs) (eq-eqb x v r) | inr r ↦ absurd (mem-nil x r) ]
         ]
         | inr q ↦ mem-there x v vs (firsts-mem vs ws x q)
       ]

@@ -5,17 +5,17 @@ use mathlib.Core.Logic.{◌≢◌}
 use mathlib.Core.Bool.{Bool, true, false, not, cond, ◌&&◌, ◌||◌}
 use mathlib.Core.List.Memᴰ
 use mathlib.Core.List.{List, [], ◌∷◌, map, Memᴰ}
-use Prim.Native.Nat.{ℕ, ◌<◌}
+use Prim.Native.Nat.{ℕ}
 use native.Mathlib.Omega.{arith}
-use borrow.Author.Tests.{not-true, not-false, lt-ltb}
+use borrow.Author.Tests.{not-true, not-false}
 use Rattle.mesh.specs.declared.element.Tet.{Tet}
-use Rattle.mesh.specs.Complex.{mem, sub, Sub, Nodup}
+use Rattle.mesh.specs.Complex.{sub, Sub}
 use Rattle.mesh.specs.inside.Complex.{IsElement, Proper}
 use Rattle.mesh.specs.Tests.{every, nodup, under}
 use Rattle.mesh.specs.Element.{vertices_of}
 use Rattle.mesh.specs.Boundary.{boundary_number}
 use Rattle.mesh.specs.Intake.{Given, too_many, too_short, options_in, fields_in, sized_point, in_box, well_numbered, same_vertices, all_different, upright, intake}
-use Rattle.mesh.proofs.Laws.Complex.Sets.{clash, and-fst, and-snd, mem-here, mem-there, sub-intro, sub-elim}
+use Rattle.mesh.proofs.Laws.Complex.Sets.{clash, and-fst, and-snd, sub-intro, sub-elim}
 use Rattle.mesh.proofs.Laws.Link.Members.{every-elim, every-intro}
 use Rattle.mesh.proofs.Laws.Complex.Tests.{nodup-sound, nodup-true, under-sound, under-true}
 

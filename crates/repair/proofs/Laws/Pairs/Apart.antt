@@ -18,7 +18,7 @@ use Rattle.mesh.specs.Tests.{nodup}
 use Rattle.mesh.specs.Element.{pair, same_pair}
 use Rattle.mesh.specs.Words.{numbers}
 use Rattle.mesh.specs.Group.{same_ranks, rank_of, group_of}
-use Rattle.mesh.proofs.Laws.Complex.Sets.{split, clash, nope, and-fst, and-snd, mem-here, mem-there, mem-cases, mem-nil, keep-mem}
+use Rattle.mesh.proofs.Laws.Complex.Sets.{split, clash, nope, or_left, and-fst, and-snd, mem-here, mem-there, mem-cases, mem-nil, keep-mem}
 use Rattle.mesh.proofs.Laws.Link.Members.{Decides, among-elim}
 use Rattle.mesh.proofs.Laws.Link.Simplices.{every-mem}
 use Rattle.repair.specs.Mesh.{Mesh}
@@ -44,7 +44,7 @@ pair-decides = record {
 seconds-mem : {e : Pair} (es : List Pair) → Memᴰ e es → mem e.b (seconds es) ≡ true
 seconds-mem [] i = absurd (mathlib.Core.List.Memᴰ.not-nil i)
 seconds-mem {e} (f ∷ es) i =
-    elim (mathlib.Core.List.Memᴰ.cases_cons i) [ inl q ↦ rw q (mem-here f.b (seconds es)) | inr q ↦ mem-there e.b f.b (seconds es) (seconds-mem es q) ]
+    elim (mathlib.Core.List.Memᴰ.cases_cons i) [ inl q ↦ or_left (mem e.b (seconds es)) (eq-eqb e.b f.b (ap (λ (p : Pair). p.b) q)) | inr q ↦ mem-there e.b f.b (seconds es) (seconds-mem es q) ]
 
 -- a vertex is the second of one pair only
 seconds-one : {e f : Pair} (es : List Pair) → Nodup (seconds es) → Memᴰ e es → Memᴰ f es → e.b ≡ f.b → e ≡ f

@@ -19,7 +19,6 @@ use Rattle.mesh.specs.Element.{tets}
 use Rattle.mesh.specs.Group.{group_of}
 use Rattle.mesh.specs.inside.Group.{group_rows}
 use Rattle.mesh.specs.inside.List.{gone}
-use Rattle.mesh.specs.inside.Star.{Laid}
 use Rattle.mesh.proofs.Laws.Parts.{part_same, rest-same}
 use Rattle.mesh.proofs.Laws.Star.Chains.{complete-kept}
 use Rattle.repair.specs.declared.improve.partners.Run.{Run}

@@ -17,7 +17,7 @@ use Rattle.mesh.specs.Complex.{mem, keep, Nodup}
 use Rattle.mesh.specs.Tests.{nodup}
 use Rattle.mesh.specs.Sets.{among}
 use Rattle.mesh.specs.Element.{pair, same_pair, vertices_of}
-use Rattle.mesh.proofs.Laws.Complex.Sets.{split, clash, nope, or_right, and-fst, and-snd, mem-here, mem-there, mem-cases, mem-nil, out-tail}
+use Rattle.mesh.proofs.Laws.Complex.Sets.{split, clash, nope, or_left, or_right, and-fst, and-snd, mem-here, mem-there, mem-cases, mem-nil, out-tail}
 use Rattle.mesh.proofs.Laws.Star.Chains.{few-below}
 use Rattle.mesh.proofs.Laws.Complex.Renumber.{map-mem}
 use Rattle.repair.specs.Improve.{image, image_of, collapsed}
@@ -45,8 +45,13 @@ unfolding image
 image-cases [] v = inl refl
 image-cases (e ∷ es) v =
     elim (split (eqb e.a v)) [
-      | inl h ↦ inr (rw h (mem-here e.b (seconds_of es)))
-      | inr h ↦ elim (image-cases es v) [ inl q ↦ inl (rw h q) | inr q ↦ inr (rw h (mem-there (image es v) e.b (seconds_of es) q)) ]
+      | inl h ↦ let s : image (e ∷ es) v ≡ e.b = rw h refl in inr (or_left (mem (image (e ∷ es) v) (seconds_of es)) (eq-eqb (image (e ∷ es) v) e.b s))
+      | inr h ↦
+          let s : image (e ∷ es) v ≡ image es v = rw h refl in
+          elim (image-cases es v) [
+            | inl q ↦ inl (s ∙ q)
+            | inr q ↦ inr (mem-there (image (e ∷ es) v) e.b (seconds_of es) (subst (λ (u : ℕ). mem u (seconds_of es) ≡ true) (sym s) q))
+          ]
     ]
 
 pub pair-here : (e : Pair) (es : List Pair) → among same_pair e (e ∷ es) ≡ true

@@ -5,10 +5,10 @@ use mathlib.Core.Bool.{Bool, true, false, not, cond, ◌&&◌, ◌||◌, true≢
 use mathlib.Core.List.{List, [], ◌∷◌, map}
 use Prim.Native.Nat.{ℕ, ◌≤◌, ◌<◌}
 use native.Mathlib.Omega.{arith}
-use borrow.Author.Tests.{eqb-true, ne_eqb, lt-ltb}
+use borrow.Author.Tests.{eqb-true, ne_eqb}
 use lib.Dec.{eqb}
 use Rattle.mesh.specs.declared.element.Tet.{Tet}
-use Rattle.mesh.specs.Complex.{mem, keep}
+use Rattle.mesh.specs.Complex.{keep}
 use Rattle.mesh.specs.Tests.{every, nodup, under}
 use Rattle.mesh.specs.Feature.{onto}
 use Rattle.mesh.specs.Element.{pair, tet, vertices_of}
@@ -16,7 +16,7 @@ use Rattle.mesh.specs.Intake.{well_numbered}
 use Rattle.mesh.specs.inside.List.{gone}
 use Rattle.mesh.specs.inside.Star.{gone_word, gone_tet}
 use Rattle.mesh.proofs.Laws.Bools.{and_intro}
-use Rattle.mesh.proofs.Laws.Complex.Sets.{split, nope, or_cases, and-fst, and-snd, mem-here, mem-there, out-head, out-tail}
+use Rattle.mesh.proofs.Laws.Complex.Sets.{split, nope, or_cases, and-fst, and-snd, mem-here, out-head, out-tail}
 use Rattle.mesh.proofs.Laws.Link.Labels.{onto-other}
 use Rattle.repair.specs.Mesh.{has}
 use Rattle.repair.specs.Improve.{image_of, collapsed}

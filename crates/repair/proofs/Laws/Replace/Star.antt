@@ -1,7 +1,7 @@
 -- a goes into b in the slots of a's star, as `star` lists them: then it did so in every slot. Assumes nothing.
-use mathlib.Core.Path.{◌≡◌, refl, sym, ap, subst, ◌∙◌}
+use mathlib.Core.Path.{◌≡◌, sym, ap, subst, ◌∙◌}
 use mathlib.Core.Logic.{◌≢◌, inl, inr}
-use mathlib.Core.Bool.{Bool, true, false, ◌||◌}
+use mathlib.Core.Bool.{true, false}
 use mathlib.Core.List.{List, map}
 use Prim.Native.Nat.{ℕ, ◌+◌, ◌*◌, ◌≤◌, ◌<◌}
 use native.Mathlib.Nat.{zero-add}
@@ -14,7 +14,7 @@ use Rattle.mesh.specs.Words.{word_at}
 use Rattle.mesh.specs.Complex.{mem}
 use Rattle.mesh.specs.Element.{tets}
 use Rattle.mesh.specs.inside.Intake.{tet_at}
-use Rattle.mesh.specs.inside.Star.{star_of, star_list, starred, gone_tet, Complete, Laid}
+use Rattle.mesh.specs.inside.Star.{star_of, star_list, starred, gone_tet, Complete}
 use Rattle.mesh.proofs.Laws.Complex.Sets.{split, clash, nope, or_left}
 use Rattle.mesh.proofs.Laws.Intake.Reads.{length-tets, tets-at}
 use Rattle.mesh.proofs.Laws.Star.Scan.{star-in, star-out}

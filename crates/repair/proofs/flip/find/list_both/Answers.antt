@@ -1,0 +1,6 @@
+-- `repair::flip::find::list_both` meets its contract: the index lists what the state has. Assumes nothing.
+use Rattle.repair.proofs.Laws.Flip.Find.{both-stands}
+use Rattle.repair.proofs.flip.find.list_both.Goals as goal
+
+pub returns : goal.returns
+returns c = λ n k s z ha hb. both-stands z c.args.a c.args.b _ _ ha hb c.slots_with.ensures.0 c.slots_with.ensures.1

@@ -1,0 +1,153 @@
+-- `repair::smooth::smooth_group` meets its contract. Assumes nothing.
+use mathlib.Core.Path.{refl, sym, ap, ◌∙◌}
+use Prim.Native.Nat.{◌+◌, ◌*◌}
+use native.Mathlib.Omega.{arith}
+use borrow.Author.Tests.{not-true, not-false}
+use lib.Ieee.{lt}
+use lib.ListN.{take}
+use Rattle.geometry.specs.Literals.{fifteen_hundredths}
+use Rattle.repair.specs.Smooth.{best_for, smooth_group}
+use Rattle.repair.specs.Step.{regions_of}
+use Rattle.repair.specs.inside.smooth.Site.{state_of, new_parameters, new_point, mesh_for}
+use Rattle.repair.proofs.Laws.Site.Work.{same-trans}
+use Rattle.repair.proofs.Laws.Site.Turn.{listed-range, ready₁, rows₁, slots₁, lowest₁, sited₁, best₁, turned₁, turn-fine, turn-none, turn_moved, site-once, site-vertices, site-placed}
+use Rattle.repair.proofs.smooth.smooth_group.Goals as goal
+
+pub overflow_mul-group : goal.overflow_mul-group
+overflow_mul-group c = let g = c.requires.ready.1.inside in let r = c.requires.ready.0.room.few in omega (arith, g, r)
+
+pub overflow_add-group : goal.overflow_add-group
+overflow_add-group c = let g = c.requires.ready.1.inside in let r = c.requires.ready.0.room.few in omega (arith, g, r)
+
+pub list_about-site-requires : goal.list_about-site-requires
+list_about-site-requires c = (c.requires.ready.0, c.requires.ready.1)
+
+pub lowest_about-lowest-requires : goal.lowest_about-lowest-requires
+lowest_about-lowest-requires c = let a = c.args in
+    let w = a.work.now in
+    let els = a.elements.now in
+    let i = 7 * a.run.first + 6 in
+    let r = c.requires.ready.0 in
+    let g = c.requires.ready.1 in
+    let z = c.requires.ready.2 in
+    let s = c.list_about-site.result in
+    let l = c.list_about-site.ensures in
+    listed-range a.x w _ i a.run.size s r g l
+
+pub shape_of-points-then-not-lowest : goal.shape_of-points-then-not-lowest
+shape_of-points-then-not-lowest c = refl
+
+pub shape_of-work-then-not-lowest : goal.shape_of-work-then-not-lowest
+shape_of-work-then-not-lowest c = c.list_about-site.auto.work
+
+pub returns-then-not-lowest : goal.returns-then-not-lowest
+unfolding lib.Ieee.of_bits
+returns-then-not-lowest c =
+    let a = c.args in
+    let w = a.work.now in
+    let els = a.elements.now in
+    let i = 7 * a.run.first + 6 in
+    let r = c.requires.ready.0 in
+    let g = c.requires.ready.1 in
+    let z = c.requires.ready.2 in
+    let s = c.list_about-site.result in
+    let l = c.list_about-site.ensures in
+    let r₁ = ready₁ a.x els i a.run.size w _ s r g z l in
+    let g₁ = rows₁ a.x els i a.run.size w _ s r g z l in
+    let z₁ = slots₁ a.x els i a.run.size w _ s r g z l in
+    let q = lowest₁ a.x els i a.run.size w _ s r g z l a.points.now c.lowest_about-lowest.result c.lowest_about-lowest.ensures in
+    record { turned = turned₁ a.x els i a.run.size w _ s r g z l (smooth_group a.s.options (take a.s.count a.fields) (regions_of a.listed a.regions.now) (mesh_for a.x a.masks.now els) (state_of a.x.vertices a.parameters.now a.points.now a.moved)) a.parameters.now a.points.now _ _ _ (turn-fine a.s.options (take a.s.count a.fields) (regions_of a.listed a.regions.now) a.x a.masks.now els a.parameters.now a.points.now i a.run.size _ r₁ g₁ z₁ a.moved (ap (λ y. lt y fifteen_hundredths) (sym q) ∙ c.if-not-lowest.true)); same_to = (l.same, omega arith) }
+
+pub best_for-best-requires : goal.best_for-best-requires
+best_for-best-requires c =
+    let a = c.args in
+    let w = a.work.now in
+    let els = a.elements.now in
+    let i = 7 * a.run.first + 6 in
+    let r = c.requires.ready.0 in
+    let g = c.requires.ready.1 in
+    let z = c.requires.ready.2 in
+    let s = c.list_about-site.result in
+    let l = c.list_about-site.ensures in
+    let r₁ = ready₁ a.x els i a.run.size w _ s r g z l in
+    let z₁ = slots₁ a.x els i a.run.size w _ s r g z l in
+    record { ready = (r₁, z₁, sited₁ a.x els i a.run.size w _ s r g z l); lowest_value = c.lowest_about-lowest.ensures }
+
+pub shape_of-parameters-then-not-best : goal.shape_of-parameters-then-not-best
+shape_of-parameters-then-not-best c = refl
+
+pub shape_of-points-then-not-best : goal.shape_of-points-then-not-best
+shape_of-points-then-not-best c = refl
+
+pub shape_of-work-then-not-best : goal.shape_of-work-then-not-best
+shape_of-work-then-not-best c = c.best_for-best.auto.work ∙ c.list_about-site.auto.work
+
+pub returns-then-not-best : goal.returns-then-not-best
+unfolding lib.Ieee.of_bits
+returns-then-not-best c =
+    let a = c.args in
+    let w = a.work.now in
+    let els = a.elements.now in
+    let i = 7 * a.run.first + 6 in
+    let r = c.requires.ready.0 in
+    let g = c.requires.ready.1 in
+    let z = c.requires.ready.2 in
+    let s = c.list_about-site.result in
+    let l = c.list_about-site.ensures in
+    let r₁ = ready₁ a.x els i a.run.size w _ s r g z l in
+    let g₁ = rows₁ a.x els i a.run.size w _ s r g z l in
+    let z₁ = slots₁ a.x els i a.run.size w _ s r g z l in
+    let q = lowest₁ a.x els i a.run.size w _ s r g z l a.points.now c.lowest_about-lowest.result c.lowest_about-lowest.ensures in
+    record { turned = turned₁ a.x els i a.run.size w _ s r g z l (smooth_group a.s.options (take a.s.count a.fields) (regions_of a.listed a.regions.now) (mesh_for a.x a.masks.now els) (state_of a.x.vertices a.parameters.now a.points.now a.moved)) a.parameters.now a.points.now _ _ _ (turn-none a.s.options (take a.s.count a.fields) (regions_of a.listed a.regions.now) a.x a.masks.now els a.parameters.now a.points.now i a.run.size _ r₁ g₁ z₁ a.moved c.best_for-best.result (ap (λ y. lt y fifteen_hundredths) (sym q) ∙ c.if-not-lowest.false) (best₁ a.x els i a.run.size w _ s r g z l (best_for a.s.options (take a.s.count a.fields) (regions_of a.listed a.regions.now) (mesh_for a.x a.masks.now els) (state_of a.x.vertices a.parameters.now a.points.now 0)) _ c.best_for-best.ensures.result_value) (not-true _ c.if-not-best.true)); same_to = (same-trans a.x.area w _ _ l.same c.best_for-best.ensures.same_to, omega arith) }
+
+pub move_group-requires : goal.move_group-requires
+move_group-requires c =
+    let a = c.args in
+    let w = a.work.now in
+    let els = a.elements.now in
+    let i = 7 * a.run.first + 6 in
+    let r = c.requires.ready.0 in
+    let g = c.requires.ready.1 in
+    let z = c.requires.ready.2 in
+    let s = c.list_about-site.result in
+    let l = c.list_about-site.ensures in
+    let n = site-vertices a.x els i a.run.size w _ s r g z l _ c.best_for-best.ensures.same_to in
+    let f = r.room.few in
+    record { vertices_bound = (omega (arith, n, f), omega (arith, n, c.requires.moved_le_first.1), omega (arith, n, c.requires.moved_le_first.2)); in_range = (listed-range a.x w _ i a.run.size s r g l, site-once a.x els i a.run.size w _ s r g z l _ c.best_for-best.ensures.same_to) }
+
+pub overflow_add-result : goal.overflow_add-result
+overflow_add-result c = let g = c.requires.ready.1.inside in let r = c.requires.ready.0.room.few in let m = c.requires.moved_le_first.0 in omega (arith, g, r, m)
+
+pub shape_of-parameters : goal.shape_of-parameters
+shape_of-parameters c = c.move_group.auto.parameters
+
+pub shape_of-points : goal.shape_of-points
+shape_of-points c = c.move_group.auto.points
+
+pub shape_of-work : goal.shape_of-work
+shape_of-work c = c.best_for-best.auto.work ∙ c.list_about-site.auto.work
+
+pub returns : goal.returns
+unfolding lib.Ieee.of_bits
+returns c =
+    let a = c.args in
+    let w = a.work.now in
+    let els = a.elements.now in
+    let i = 7 * a.run.first + 6 in
+    let r = c.requires.ready.0 in
+    let g = c.requires.ready.1 in
+    let z = c.requires.ready.2 in
+    let s = c.list_about-site.result in
+    let l = c.list_about-site.ensures in
+    let r₁ = ready₁ a.x els i a.run.size w _ s r g z l in
+    let g₁ = rows₁ a.x els i a.run.size w _ s r g z l in
+    let z₁ = slots₁ a.x els i a.run.size w _ s r g z l in
+    let q = lowest₁ a.x els i a.run.size w _ s r g z l a.points.now c.lowest_about-lowest.result c.lowest_about-lowest.ensures in
+    let e = c.best_for-best.ensures.same_to in
+    let p = site-placed a.x els i a.run.size w _ s r g z l _ e (λ n. new_parameters a.s.options n a.parameters.now c.best_for-best.result.point) in
+    let p' = site-placed a.x els i a.run.size w _ s r g z l _ e (λ n. new_point a.s.options n a.parameters.now c.best_for-best.result.point) in
+    record {
+      turned = turned₁ a.x els i a.run.size w _ s r g z l (smooth_group a.s.options (take a.s.count a.fields) (regions_of a.listed a.regions.now) (mesh_for a.x a.masks.now els) (state_of a.x.vertices a.parameters.now a.points.now a.moved)) a.parameters.now a.points.now _ _ _ (turn_moved a.s.options (take a.s.count a.fields) (regions_of a.listed a.regions.now) a.x a.masks.now els a.parameters.now a.points.now i a.run.size _ r₁ g₁ z₁ a.moved c.best_for-best.result _ _ _ (ap (λ y. lt y fifteen_hundredths) (sym q) ∙ c.if-not-lowest.false) (best₁ a.x els i a.run.size w _ s r g z l (best_for a.s.options (take a.s.count a.fields) (regions_of a.listed a.regions.now) (mesh_for a.x a.masks.now els) (state_of a.x.vertices a.parameters.now a.points.now 0)) _ c.best_for-best.ensures.result_value) (not-false _ c.if-not-best.false)
+          (p a.parameters.now _ c.move_group.ensures.placed) (p' a.points.now _ c.move_group.ensures.placed_2) refl);
+      same_to = (same-trans a.x.area w _ _ l.same e, omega arith);
+    }
