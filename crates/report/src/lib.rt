@@ -1,4 +1,6 @@
 // Block files, the passes on what they hold, and the text of the table: what `plot` reads, runs and prints.
+#![tactic(auto)]
+
 mod block;
 mod bytes;
 mod count;

@@ -12,7 +12,7 @@ use repair::improve::improve;
 use repair::smooth::smooth;
 
 // What a run gave, with the sizes that the mesh has after it: the three counts, or the number of the pass that refused.
-#[derive(Drop)]
+#[derive(Clone, Copy)]
 pub(crate) enum Ran {
     Finished {
         collapsed: usize,

@@ -20,7 +20,7 @@ use mesh::vertex::point_at;
 use mesh::words::{least, word};
 
 // Where the next word goes, and the sum of the block's words so far, modulo 2^32.
-#[derive(Drop)]
+#[derive(Clone, Copy)]
 struct Cursor {
     at: usize,
     sum: u32,

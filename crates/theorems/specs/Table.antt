@@ -1,7 +1,8 @@
 -- The worked examples of document 01, "Trial soil blocks", as one table of theorems about the definitions. Each field states an example
 -- in the document's order, and `table` proves them all by computation. A float is written as fin SIGN m (pos k), which is m * 2 ^ k, or
 -- fin SIGN m (negsuc k), which is m / 2 ^ (k + 1). Assumes nothing.
-use Rattle.std.specs.Prelude.{◌≡◌, refl, Bool, true, false, List, [], ◌∷◌, map, ℕ, ℤ, pos, negsuc, length, Float}
+use mathlib.Core.Path.{◌∙⁻¹◌}
+use Rattle.std.specs.Prelude.{◌≡◌, refl, true, false, List, [], ◌∷◌, map, ℕ, pos, negsuc, length, Float}
 use Rattle.std.specs.Float.{fin, binary64}
 use Rattle.std.specs.Float.Ieee.{to_bits, lt, le, eq, add, sub, mul, div, neg}
 use Rattle.geometry.specs.declared.point.Point.{Point}
@@ -137,6 +138,16 @@ flip_is : flip (mesh_with two_elements) ≡ made 1 (mesh_with three_elements)
 unfolding flip flip_by flips try_faces try_face try_edges try_edge replace live emptied besides listed_faces listed_edges same_triples end_number all_edges numbers lowest lowest_from total total_from unique unique_after insert sort sqrt determinant squared_edges squared_edge score add sub mul div neg lt eq le sort_first sort_last key_of parity_of le_triple all_faces singles boundary_of key_number first_number boundary_number
 flip_is = refl
 
+-- M4's score: R / 27
+one_score : score p000 p100 p010 p001 ≡ fin false 3466872609579539 (negsuc 51)
+unfolding score sqrt determinant squared_edges add sub mul div neg lt eq
+one_score = refl
+
+-- the score of M4 doubled: the same number
+doubled_score : score p000 (at two zero64 zero64) (at zero64 two zero64) (at zero64 zero64 two) ≡ fin false 3466872609579539 (negsuc 51)
+unfolding score sqrt determinant squared_edges add sub mul div neg lt eq
+doubled_score = refl
+
 pub table : Table
 unfolding canonical nearest_away rank_value rank sqrt to_bits determinant squared_edges score add sub mul div neg lt eq sort_first sort_last key_of parity_of le_triple all_faces singles boundary_of key_number first_number boundary_number all_different intake le insert sort faces
 table = record {
@@ -145,7 +156,7 @@ table = record {
   M3 = refl;
   M4 = (refl, refl);
   M5 = (refl, refl, refl);
-  M6 = refl;
+  M6 = doubled_score ∙⁻¹ one_score;
   M7 = (refl, refl);
   M8 = refl;
   M9 = (refl, refl);

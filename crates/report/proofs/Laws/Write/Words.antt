@@ -1,5 +1,5 @@
 -- Words as bytes and back, sums of words, and rows of equal length. Assumes nothing.
-use Rattle.std.proofs.Common.{◌≡◌, ℕ, zero, suc, ◌+◌, ◌-◌, ◌*◌, ◌/◌, ◌%◌, ◌^◌, ◌<◌, ◌≤◌, List, [], ◌∷◌, ◌++◌, length, get_or, take, sym, refl, ap, ◌∙◌, inl, inr, mul-le-mul_right, arith, take_all, take-suc, get_or-append-add}
+use Rattle.std.proofs.Common.{◌≡◌, ℕ, zero, suc, ◌+◌, ◌*◌, ◌/◌, ◌%◌, ◌^◌, ◌<◌, ◌≤◌, List, [], ◌∷◌, ◌++◌, length, get_or, take, sym, refl, ap, ◌∙◌, inl, inr, mul-le-mul_right, arith, take_all, take-suc, get_or-append-add}
 use native.Mathlib.Nat.{div-div-eq-div-mul}
 use lib.ListN.{get_or-append}
 use Rattle.mesh.proofs.Laws.Parts.{side}

@@ -1,0 +1,7 @@
+-- `report::header::bounds` meets its contract. Assumes nothing.
+use Rattle.report.specs.Block.{header_options}
+use Rattle.report.proofs.header.bounds.Goals as goal
+
+pub returns : goal.returns
+unfolding header_options
+returns c = cc

@@ -1,0 +1,10 @@
+-- `report::text::put_signed` meets its contract. Assumes nothing.
+use Rattle.std.proofs.Common.{arith}
+use Rattle.report.proofs.Laws.Lines.{signed-plus, signed-minus}
+use Rattle.report.proofs.text.put_signed.Goals as goal
+
+pub returns-then-minus-plus : goal.returns-then-minus-plus
+returns-then-minus-plus c = (signed-plus c.args.plus c.args.minus c.if-minus-plus.true c.put_decimal.ensures.0, omega arith)
+
+pub returns : goal.returns
+returns c = (signed-minus c.args.at c.args.plus c.args.minus c.if-minus-plus.false c.put.ensures c.put_decimal-2.ensures.0, omega arith)
