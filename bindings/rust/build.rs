@@ -1,4 +1,4 @@
-//! Links libhalmafir.a, which `rt staticlib halmafir` makes: from the folder in HALMAFIR_LIB, or
+//! Links libhalmafir.a, which `bash tools/archive halmafir` makes: from the folder in HALMAFIR_LIB, or
 //! from target/staticlib of the repository.
 use std::path::PathBuf;
 

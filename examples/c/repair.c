@@ -1,4 +1,4 @@
-/* Repairs a mesh of three elements and prints the counts. In the repository's folder, after `rt staticlib halmafir`:
+/* Repairs a mesh of three elements and prints the counts. In the repository's folder, after `bash tools/archive halmafir`:
 
      cc -O2 -Wall -Iinclude examples/c/repair.c -Ltarget/staticlib -lhalmafir -o target/repair && target/repair
 

@@ -1,5 +1,7 @@
 // Functions for programs in other languages to call, for comparison and measurement. Numbers pass as
 // themselves, an array as a pointer to its first number. A box is lo and hi per direction: x, y, z.
+#![tactic(auto)]
+
 pub mod passes;
 
 ghost use Rattle.std.specs.Prelude.{◌≡◌, ◌<◌, ◌*◌, ◌%◌, ◌/◌, length, eqb};

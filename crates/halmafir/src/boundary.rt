@@ -7,8 +7,7 @@ use mesh::boundary::Outcome;
 
 // The sorted boundary of the first `count` elements, at the front of `surface`, with 0 returned and the number of its triples in `triples`;
 // or a number of document 01's table returned, with 0 in `triples` and the surface as it was. The work is all zeros afterwards.
-#[unsafe(no_mangle)]
-pub extern "C" fn halmafir_boundary(
+pub fn halmafir_boundary(
     elements: &[u32],
     count: usize,
     surface: &mut [u32],

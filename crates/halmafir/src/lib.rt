@@ -1,5 +1,6 @@
-// Halmafir for programs in other languages: the passes, the boundary and the text of `plot` over numbers and slices. A slice passes as a pointer and
-// a length, an array as a pointer to its first number. include/halmafir.h says in words what each function promises.
+// Halmafir for programs in other languages: the passes, the boundary and the text of `plot` over numbers and slices. Crate halmafir_c exports them to C.
+#![tactic(auto)]
+
 pub mod arrays;
 pub mod boundary;
 pub mod passes;

@@ -32,8 +32,7 @@ fn put_answer(to: &mut [usize; 4], given: Answer) -> u32
 }
 
 // `improve`: collapses short edges of badly shaped elements. The count is that of the vertices replaced.
-#[unsafe(no_mangle)]
-pub extern "C" fn halmafir_improve(
+pub fn halmafir_improve(
     parameters: &mut [f64],
     points: &mut [f64],
     masks: &mut [u32],
@@ -46,10 +45,10 @@ pub extern "C" fn halmafir_improve(
     floats: &mut [f64],
     res: &mut [usize; 4],
 ) -> u32
-    ensures* { λ r. ⌜ ◌≡◌ {A = Returned}
-        (record { number = r; result = res.new; parameters = parameters.new; points = points.new; masks = masks.new; elements = elements.new; surface = surface.new; words = words.new; floats = floats.new })
+    ensures { ◌≡◌ {A = Returned}
+        (record { number = result; result = res.new; parameters = parameters.new; points = points.new; masks = masks.new; elements = elements.new; surface = surface.new; words = words.new; floats = floats.new })
         (called (call_of Pass.improve (settings_of sizes.now settings.now numbers.now) (fields_of settings.now numbers.now) none words.old floats.old)
-        (held (sizes_of sizes.now) parameters.old points.old masks.old elements.old surface.old)) ⌝ }
+        (held (sizes_of sizes.now) parameters.old points.old masks.old elements.old surface.old)) }
 {
     let s = settings_of(sizes, settings, numbers);
     let f = fields_of(settings, numbers);
@@ -61,8 +60,7 @@ pub extern "C" fn halmafir_improve(
 
 // `smooth`: moves vertices of badly shaped elements. The count is that of the vertices moved. `listed` is 0 where there is no list of
 // regions, which is not the same as an empty list, and any other number where `regions` is the list.
-#[unsafe(no_mangle)]
-pub extern "C" fn halmafir_smooth(
+pub fn halmafir_smooth(
     parameters: &mut [f64],
     points: &mut [f64],
     masks: &[u32],
@@ -77,10 +75,10 @@ pub extern "C" fn halmafir_smooth(
     floats: &mut [f64],
     res: &mut [usize; 4],
 ) -> u32
-    ensures* { λ r. ⌜ ◌≡◌ {A = Returned}
-        (record { number = r; result = res.new; parameters = parameters.new; points = points.new; masks = masks.now; elements = elements.now; surface = surface.now; words = words.new; floats = floats.new })
+    ensures { ◌≡◌ {A = Returned}
+        (record { number = result; result = res.new; parameters = parameters.new; points = points.new; masks = masks.now; elements = elements.now; surface = surface.now; words = words.new; floats = floats.new })
         (called (call_of Pass.smooth (settings_of sizes.now settings.now numbers.now) (fields_of settings.now numbers.now) (regions_of (not (eqb listed 0)) regions.now) words.old floats.old)
-        (held (sizes_of sizes.now) parameters.old points.old masks.now elements.now surface.now)) ⌝ }
+        (held (sizes_of sizes.now) parameters.old points.old masks.now elements.now surface.now)) }
 {
     let s = settings_of(sizes, settings, numbers);
     let f = fields_of(settings, numbers);
@@ -101,8 +99,7 @@ pub extern "C" fn halmafir_smooth(
 }
 
 // `flip`: reconnects badly shaped elements. The count is that of the flips made.
-#[unsafe(no_mangle)]
-pub extern "C" fn halmafir_flip(
+pub fn halmafir_flip(
     parameters: &[f64],
     points: &[f64],
     masks: &[u32],
@@ -115,10 +112,10 @@ pub extern "C" fn halmafir_flip(
     floats: &mut [f64],
     res: &mut [usize; 4],
 ) -> u32
-    ensures* { λ r. ⌜ ◌≡◌ {A = Returned}
-        (record { number = r; result = res.new; parameters = parameters.now; points = points.now; masks = masks.now; elements = elements.new; surface = surface.new; words = words.new; floats = floats.new })
+    ensures { ◌≡◌ {A = Returned}
+        (record { number = result; result = res.new; parameters = parameters.now; points = points.now; masks = masks.now; elements = elements.new; surface = surface.new; words = words.new; floats = floats.new })
         (called (call_of Pass.flip (settings_of sizes.now settings.now numbers.now) (fields_of settings.now numbers.now) none words.old floats.old)
-        (held (sizes_of sizes.now) parameters.now points.now masks.now elements.old surface.old)) ⌝ }
+        (held (sizes_of sizes.now) parameters.now points.now masks.now elements.old surface.old)) }
 {
     let s = settings_of(sizes, settings, numbers);
     let f = fields_of(settings, numbers);

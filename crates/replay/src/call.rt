@@ -13,7 +13,7 @@ use repair::improve::improve;
 use repair::smooth::smooth;
 
 // The numbers of a call, where its fields and regions stand (`fields` and `regions` in the text), and where its answer does.
-#[derive(Drop)]
+#[derive(Clone, Copy)]
 pub(crate) struct Call {
     pub pass: u64,
     pub count: u32,

@@ -1,5 +1,7 @@
 // Replays stored answers of the Rust: data/units.txt has single functions with their inputs and answers, data/passes.txt lists of calls of the
 // passes. For each function the program prints how many lines agree and how many differ, and the same for calls, with those not replayed.
+#![tactic(auto)]
+
 mod buffers;
 mod call;
 mod link;
@@ -10,67 +12,69 @@ mod surface;
 mod text;
 mod units;
 
-use libc::STDOUT_FILENO;
+use input::read_full;
+use std::rt::Files;
+use std::{fs, io};
 
-fn print(s: &[u8]) {
-    io::write_all(STDOUT_FILENO, s);
+fn print(rt: &impl Print, s: &[u8]) -> io::Result<()> {
+    rt.write_all(s)
 }
 
 // A count behind its name.
-fn count(name: &[u8], n: u64) {
-    print(name);
-    io::print_decimal(STDOUT_FILENO, n);
+fn count(rt: &impl Print, name: &[u8], n: u64) -> io::Result<()> {
+    print(rt, name)?;
+    print!(rt; "{n}")
 }
 
-fn name(k: usize) {
+fn name(rt: &impl Print, k: usize) -> io::Result<()> {
     if k == 0 {
-        return print(b"root");
+        return print(rt, b"root");
     }
     if k == 1 {
-        return print(b"norm");
+        return print(rt, b"norm");
     }
     if k == 2 {
-        return print(b"determinant");
+        return print(rt, b"determinant");
     }
     if k == 3 {
-        return print(b"edges");
+        return print(rt, b"edges");
     }
     if k == 4 {
-        return print(b"score");
+        return print(rt, b"score");
     }
-    later_name(k)
+    later_name(rt, k)
 }
 
-fn later_name(k: usize) {
+fn later_name(rt: &impl Print, k: usize) -> io::Result<()> {
     if k == 5 {
-        return print(b"spacing");
+        return print(rt, b"spacing");
     }
     if k == 6 {
-        return print(b"rank");
+        return print(rt, b"rank");
     }
     if k == 7 {
-        return print(b"cap");
+        return print(rt, b"cap");
     }
     if k == 8 {
-        return print(b"value");
+        return print(rt, b"value");
     }
     if k == 9 {
-        return print(b"gradient");
+        return print(rt, b"gradient");
     }
-    last_name(k)
+    last_name(rt, k)
 }
 
-fn last_name(k: usize) {
+fn last_name(rt: &impl Print, k: usize) -> io::Result<()> {
     if k == 10 {
-        return print(b"boundary");
+        return print(rt, b"boundary");
     }
     if k == 11 {
-        return print(b"nonmanifold");
+        return print(rt, b"nonmanifold");
     }
     if k == 12 {
-        return print(b"link");
+        return print(rt, b"link");
     }
-    print(b"project")
+    print(rt, b"project")
 }
 
 // Whether the function of this kind gives the line's answer.
@@ -118,43 +122,34 @@ fn tally(bytes: &[u8], k: usize, agree: bool) -> u64 {
     n
 }
 
-fn report(bytes: &[u8]) {
+fn report(rt: &impl Print, bytes: &[u8]) -> io::Result<()> {
     for k in 0..14 {
-        name(k);
-        count(b": agree ", tally(bytes, k, true));
-        count(b", differ ", tally(bytes, k, false));
-        print(b"\n");
+        name(rt, k)?;
+        count(rt, b": agree ", tally(bytes, k, true))?;
+        count(rt, b", differ ", tally(bytes, k, false))?;
+        print(rt, b"\n")?;
     }
+    Ok(())
 }
 
-fn replay_units() {
-    let file = os::open_read(b"units.txt");
-    if file < 0 {
-        os::fail(b"units.txt");
-        return;
-    }
+fn replay_units(rt: &(impl Files + Print)) -> io::Result<()> {
+    let mut file = fs::open(rt, "units.txt")?;
     let mut buffer = [0u8; 262144];
-    let n = io::read_full(file, &mut buffer);
-    libc::close(file);
-    report(&buffer[..n]);
+    let n = read_full(&mut file, &mut buffer)?;
+    report(rt, &buffer[..n])
 }
 
-fn replay_passes() {
-    let file = os::open_read(b"passes.txt");
-    if file < 0 {
-        os::fail(b"passes.txt");
-        return;
-    }
+fn replay_passes(rt: &(impl Files + Print)) -> io::Result<()> {
+    let mut file = fs::open(rt, "passes.txt")?;
     let mut buffer = [0u8; 65536];
-    let t = pieces::replay_file(file, &mut buffer);
-    libc::close(file);
-    count(b"calls: agree ", t.agree);
-    count(b", differ ", t.differ);
-    count(b", not replayed ", t.left);
-    print(b"\n");
+    let t = pieces::replay_file(&mut file, &mut buffer)?;
+    count(rt, b"calls: agree ", t.agree)?;
+    count(rt, b", differ ", t.differ)?;
+    count(rt, b", not replayed ", t.left)?;
+    print(rt, b"\n")
 }
 
-fn main() {
-    replay_units();
-    replay_passes();
+fn main(rt: HostRuntime) -> io::Result<()> {
+    replay_units(&rt)?;
+    replay_passes(&rt)
 }

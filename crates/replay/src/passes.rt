@@ -11,7 +11,7 @@ use mesh::intake::Sizes;
 use mesh::words::{copy_floats_into, copy_into};
 
 // How many calls agree, differ, and are not replayed.
-#[derive(Drop)]
+#[derive(Clone, Copy)]
 pub(crate) struct Tally {
     pub agree: u64,
     pub differ: u64,
@@ -19,7 +19,7 @@ pub(crate) struct Tally {
 }
 
 // Where the five lists stand and how long they are.
-#[derive(Drop)]
+#[derive(Clone, Copy)]
 struct Lists {
     parameters: usize,
     points: usize,

@@ -1,11 +1,14 @@
 // A file of lists of calls, read in pieces: a list that a piece's end may cut begins the next piece.
-ghost use Rattle.std.specs.Prelude.{◌+◌, ◌<◌, ◌≤◌, length};
+ghost use Rattle.std.specs.Prelude.{◌+◌, ◌<◌, ◌≤◌, IfOk, length};
 
 use crate::passes::{Tally, is_case, none, replay};
 use crate::text::next_line;
+use input::read_full;
+use std::io;
+use std::io::Read;
 
 // What the pieces so far give, and how many bytes at the buffer's front are not replayed yet.
-#[derive(Drop)]
+#[derive(Clone, Copy)]
 struct Piece {
     tally: Tally,
     kept: usize,
@@ -63,31 +66,31 @@ fn to_front(buffer: &mut [u8], from: usize, n: usize)
 }
 
 // Reads the next piece behind the kept bytes, replays its whole lists and keeps the rest.
-fn next_piece(file: i32, buffer: &mut [u8], p: Piece) -> Piece
+fn next_piece(file: &mut impl Read, buffer: &mut [u8], p: Piece) -> io::Result<Piece>
     requires { p.kept ≤ length buffer.old }
-    ensures { result.kept ≤ length buffer.old }
+    ensures { IfOk result (λ next. next.kept ≤ length buffer.old) }
 {
     let kept = p.kept;
-    let n = kept + io::read_full(file, &mut buffer[kept..]);
+    let n = kept + read_full(file, &mut buffer[kept..])?;
     let done = whole_lists(buffer, n);
     let t = replay_front(buffer, done, p.tally);
     to_front(buffer, done, n - done);
-    Piece {
+    Ok(Piece {
         tally: t,
         kept: n - done,
-    }
+    })
 }
 
 // Replays the lists of an open file of at most 16 pieces.
-pub(crate) fn replay_file(file: i32, buffer: &mut [u8]) -> Tally {
+pub(crate) fn replay_file(file: &mut impl Read, buffer: &mut [u8]) -> io::Result<Tally> {
     let mut p = Piece {
         tally: none(),
         kept: 0,
     };
     let mut i: usize = 0;
     while i < 16 {
-        p = next_piece(file, buffer, p);
+        p = next_piece(file, buffer, p)?;
         i += 1;
     }
-    p.tally
+    Ok(p.tally)
 }

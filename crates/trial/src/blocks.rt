@@ -17,6 +17,7 @@ use geometry::field::Field;
 use geometry::point::Point;
 use report::report::report;
 use report::write::write_file;
+use std::io;
 
 // The words of the example that are given each value below 40: the first five, cells, periodic bits, passes, number of fields, the field's kind, and the
 // first three of the other blocks.
@@ -300,15 +301,16 @@ fn answered(file: &[u8], n: usize) -> u32 {
 }
 
 // Prints the text for the first n bytes.
-pub(crate) fn show_report(file: &[u8], n: usize) {
+pub(crate) fn show_report(rt: &impl Print, file: &[u8], n: usize) -> io::Result<()> {
     let mut out = [0u8; 400];
     if file.len() < n {
-        return;
+        return Ok(());
     }
     let r = report(&file[..n], &mut out);
     if r <= 400 {
-        text(&out[..r]);
+        text(rt, &out[..r])?;
     }
+    Ok(())
 }
 
 // Counts an answer.
@@ -319,20 +321,22 @@ fn count(times: &mut [u32], answer: u32) {
     }
 }
 
-fn show_time(answer: usize, times: u32) {
+fn show_time(rt: &impl Print, answer: usize, times: u32) -> io::Result<()> {
     if times != 0 {
-        number(answer as u64);
-        number(times as u64);
+        number(rt, answer as u64)?;
+        number(rt, times as u64)?;
     }
+    Ok(())
 }
 
 // Each answer that came, and how often.
-fn show_times(times: &[u32]) {
+fn show_times(rt: &impl Print, times: &[u32]) -> io::Result<()> {
     let mut i = 0;
     while i < times.len() {
-        show_time(i, times[i]);
+        show_time(rt, i, times[i])?;
         i += 1;
     }
+    Ok(())
 }
 
 // The byte with its highest or its lowest bit changed.
@@ -362,15 +366,15 @@ fn try_changes(file: &mut [u8], n: usize, high: bool, times: &mut [u32]) {
     }
 }
 
-fn all_changes(high: bool) {
+fn all_changes(rt: &impl Print, high: bool) -> io::Result<()> {
     let mut file = [0u8; 2561];
     let mut times = [0u32; 100];
     let n = put_file(0, &mut file);
     try_changes(&mut file, n, high, &mut times);
-    text(b"block changed");
-    number(if high { 128 } else { 1 });
-    show_times(&times);
-    text(b"\n");
+    text(rt, b"block changed")?;
+    number(rt, if high { 128 } else { 1 })?;
+    show_times(rt, &times)?;
+    text(rt, b"\n")
 }
 
 // The first bytes, of each length from `from` to below `to`.
@@ -395,7 +399,7 @@ fn put_again(file: &mut [u8], n: usize)
 }
 
 // The mesh's file of `size` bytes with a second copy behind it, cut at each length from `from` to below `to`. `plot` reads 2,561 bytes.
-fn all_lengths(mesh: u32, size: usize, from: usize, to: usize)
+fn all_lengths(rt: &impl Print, mesh: u32, size: usize, from: usize, to: usize) -> io::Result<()>
     requires { size < 5000 }
 {
     let mut file = [0u8; 2561];
@@ -403,12 +407,12 @@ fn all_lengths(mesh: u32, size: usize, from: usize, to: usize)
     put_file(mesh, &mut file);
     put_again(&mut file, size);
     try_lengths(&file, from, to, &mut times);
-    text(b"block lengths");
-    number(mesh as u64);
-    number(from as u64);
-    number(to as u64);
-    show_times(&times);
-    text(b"\n");
+    text(rt, b"block lengths")?;
+    number(rt, mesh as u64)?;
+    number(rt, from as u64)?;
+    number(rt, to as u64)?;
+    show_times(rt, &times)?;
+    text(rt, b"\n")
 }
 
 fn try_value(file: &mut [u8], n: usize, i: usize, v: u32, times: &mut [u32])
@@ -428,21 +432,22 @@ fn try_values(file: &mut [u8], n: usize, i: usize, times: &mut [u32])
     }
 }
 
-fn values(i: u64) {
+fn values(rt: &impl Print, i: u64) -> io::Result<()> {
     let mut file = [0u8; 2561];
     let mut times = [0u32; 100];
     let n = put_file(0, &mut file);
     try_values(&mut file, n, (i % 384) as usize, &mut times);
-    text(b"block values");
-    number(i);
-    show_times(&times);
-    text(b"\n");
+    text(rt, b"block values")?;
+    number(rt, i)?;
+    show_times(rt, &times)?;
+    text(rt, b"\n")
 }
 
-fn all_values() {
+fn all_values(rt: &impl Print) -> io::Result<()> {
     for i in 0..18 {
-        values(WORDS[i]);
+        values(rt, WORDS[i])?;
     }
+    Ok(())
 }
 
 // Which byte of a word has its highest or its lowest bit.
@@ -474,24 +479,25 @@ fn try_words(file: &mut [u8], n: usize, k: usize, high: bool, times: &mut [u32])
 }
 
 // Prints the block, the number of the bit that is changed in each word, and the answers.
-fn block_words(k: usize, high: bool)
+fn block_words(rt: &impl Print, k: usize, high: bool) -> io::Result<()>
     requires { k < 5 }
 {
     let mut file = [0u8; 2561];
     let mut times = [0u32; 100];
     let n = put_file(0, &mut file);
     try_words(&mut file, n, k, high, &mut times);
-    text(b"block words");
-    number(k as u64);
-    number(if high { 31 } else { 0 });
-    show_times(&times);
-    text(b"\n");
+    text(rt, b"block words")?;
+    number(rt, k as u64)?;
+    number(rt, if high { 31 } else { 0 })?;
+    show_times(rt, &times)?;
+    text(rt, b"\n")
 }
 
-fn all_words(high: bool) {
+fn all_words(rt: &impl Print, high: bool) -> io::Result<()> {
     for k in 0..3 {
-        block_words(k, high);
+        block_words(rt, k, high)?;
     }
+    Ok(())
 }
 
 // How far behind the first of one or two words the last is.
@@ -511,47 +517,49 @@ fn put_edit(file: &mut [u8], i: usize, words: u64, v: u64)
     seal(file, i / 128);
 }
 
-fn edit(i: u64, words: u64, v: u64) {
+fn edit(rt: &impl Print, i: u64, words: u64, v: u64) -> io::Result<()> {
     let mut file = [0u8; 2561];
     let n = put_file(0, &mut file);
     put_edit(&mut file, (i % 384) as usize, words, v);
-    text(b"block edit");
-    number(i);
-    bits(v);
-    text(b" ");
-    show_report(&file, n);
+    text(rt, b"block edit")?;
+    number(rt, i)?;
+    bits(rt, v)?;
+    text(rt, b" ")?;
+    show_report(rt, &file, n)
 }
 
 fn at(i: usize) -> u64 {
     if i < 138 { EDITS[i] } else { 0 }
 }
 
-fn edit_row(row: usize)
+fn edit_row(rt: &impl Print, row: usize) -> io::Result<()>
     requires { row < 1000 }
 {
-    edit(at(3 * row), at(3 * row + 1), at(3 * row + 2));
+    edit(rt, at(3 * row), at(3 * row + 1), at(3 * row + 2))
 }
 
-fn all_edits() {
+fn all_edits(rt: &impl Print) -> io::Result<()> {
     for row in 0..46 {
-        edit_row(row);
+        edit_row(rt, row)?;
     }
+    Ok(())
 }
 
-fn whole(mesh: u32) {
+fn whole(rt: &impl Print, mesh: u32) -> io::Result<()> {
     let mut file = [0u8; 2561];
     let n = put_file(mesh, &mut file);
-    text(b"block mesh");
-    number(mesh as u64);
-    number(n as u64);
-    text(b"\n");
-    show_report(&file, n);
+    text(rt, b"block mesh")?;
+    number(rt, mesh as u64)?;
+    number(rt, n as u64)?;
+    text(rt, b"\n")?;
+    show_report(rt, &file, n)
 }
 
-fn all_meshes() {
+fn all_meshes(rt: &impl Print) -> io::Result<()> {
     for mesh in 0..7 {
-        whole(mesh);
+        whole(rt, mesh)?;
     }
+    Ok(())
 }
 
 fn exchange(file: &mut [u8], i: usize, j: usize) {
@@ -568,24 +576,24 @@ fn exchange_blocks(file: &mut [u8]) {
     }
 }
 
-fn exchanged() {
+fn exchanged(rt: &impl Print) -> io::Result<()> {
     let mut file = [0u8; 2561];
     let n = put_file(0, &mut file);
     exchange_blocks(&mut file);
-    text(b"block exchanged ");
-    show_report(&file, n);
+    text(rt, b"block exchanged ")?;
+    show_report(rt, &file, n)
 }
 
-pub(crate) fn run() {
-    all_meshes();
-    all_changes(false);
-    all_changes(true);
-    all_lengths(0, 1536, 0, 1536);
-    all_lengths(0, 1536, 1536, 2562);
-    all_lengths(1, 512, 0, 1025);
-    all_values();
-    all_words(false);
-    all_words(true);
-    all_edits();
-    exchanged();
+pub(crate) fn run(rt: &impl Print) -> io::Result<()> {
+    all_meshes(rt)?;
+    all_changes(rt, false)?;
+    all_changes(rt, true)?;
+    all_lengths(rt, 0, 1536, 0, 1536)?;
+    all_lengths(rt, 0, 1536, 1536, 2562)?;
+    all_lengths(rt, 1, 512, 0, 1025)?;
+    all_values(rt)?;
+    all_words(rt, false)?;
+    all_words(rt, true)?;
+    all_edits(rt)?;
+    exchanged(rt)
 }

@@ -5,6 +5,7 @@ ghost use Rattle.std.specs.Prelude.{◌<◌};
 use crate::show::{bits, float, number, of, text};
 use geometry::bounds::{Bounds, Cells, Options, cap, spacing, stratum};
 use geometry::point::Point;
+use std::io;
 
 const BOXES: [u64; 96] = [
     // inside; on lo; on hi; on the corners
@@ -134,7 +135,7 @@ fn cells(i: usize) -> Cells
     }
 }
 
-fn line(row: usize)
+fn line(rt: &impl Print, row: usize) -> io::Result<()>
     requires { row < 80 }
 {
     let i = 12 * row;
@@ -143,21 +144,25 @@ fn line(row: usize)
         hi: point(i + 3),
     };
     let p = point(i + 6);
-    text(b"box");
-    number(row as u64);
-    float(spacing(Options {
-        bounds: b,
-        cells: cells(i + 9),
-        periodic: 0,
-        passes: 0,
-    }));
-    bits(cap(p, b));
-    bits(stratum(5, p, b));
-    text(b"\n");
+    text(rt, b"box")?;
+    number(rt, row as u64)?;
+    float(
+        rt,
+        spacing(Options {
+            bounds: b,
+            cells: cells(i + 9),
+            periodic: 0,
+            passes: 0,
+        }),
+    )?;
+    bits(rt, cap(p, b))?;
+    bits(rt, stratum(5, p, b))?;
+    text(rt, b"\n")
 }
 
-pub(crate) fn run() {
+pub(crate) fn run(rt: &impl Print) -> io::Result<()> {
     for row in 0..8 {
-        line(row);
+        line(rt, row)?;
     }
+    Ok(())
 }

@@ -5,6 +5,7 @@ ghost use Rattle.std.specs.Prelude.{◌<◌};
 use crate::show::{float, number, of, text};
 use geometry::field::{Field, gradient, kind, magnitude, value};
 use geometry::point::Point;
+use std::io;
 
 const FIELDS: [u64; 112] = [
     // level 0.5 at z 0.5, 0 and 1
@@ -153,25 +154,26 @@ fn field(i: usize) -> Field
     Field::Ball(p, of(at(i + 4)))
 }
 
-fn line(row: usize)
+fn line(rt: &impl Print, row: usize) -> io::Result<()>
     requires { row < 100 }
 {
     let f = field(8 * row);
     let p = point(8 * row + 5);
     let g = gradient(f, p);
-    text(b"field");
-    number(row as u64);
-    number(kind(f) as u64);
-    float(value(f, p));
-    float(g.x);
-    float(g.y);
-    float(g.z);
-    float(magnitude(g));
-    text(b"\n");
+    text(rt, b"field")?;
+    number(rt, row as u64)?;
+    number(rt, kind(f) as u64)?;
+    float(rt, value(f, p))?;
+    float(rt, g.x)?;
+    float(rt, g.y)?;
+    float(rt, g.z)?;
+    float(rt, magnitude(g))?;
+    text(rt, b"\n")
 }
 
-pub(crate) fn run() {
+pub(crate) fn run(rt: &impl Print) -> io::Result<()> {
     for row in 0..14 {
-        line(row);
+        line(rt, row)?;
     }
+    Ok(())
 }

@@ -6,6 +6,7 @@ use geometry::bounds::{Bounds, Cells, Options};
 use geometry::field::Field;
 use geometry::point::Point;
 use report::write::write_file;
+use std::io;
 
 // The heights of the four points, and the level.
 const HEIGHTS: [[f64; 5]; 5] = [
@@ -62,7 +63,7 @@ fn points(row: usize) -> [f64; 12] {
 }
 
 // Prints a row's text, the parameters being the points of another row.
-fn line(row: usize, parameters: usize) {
+fn line(rt: &impl Print, row: usize, parameters: usize) -> io::Result<()> {
     let mut file = [0u8; 2561];
     let n = write_file(
         options(),
@@ -76,16 +77,16 @@ fn line(row: usize, parameters: usize) {
         &[0u32, 1, 2, 3],
         &mut file,
     );
-    text(b"inside row");
-    number(row as u64);
-    number(parameters as u64);
-    text(b"\n");
-    show_report(&file, n);
+    text(rt, b"inside row")?;
+    number(rt, row as u64)?;
+    number(rt, parameters as u64)?;
+    text(rt, b"\n")?;
+    show_report(rt, &file, n)
 }
 
-pub(crate) fn run() {
+pub(crate) fn run(rt: &impl Print) -> io::Result<()> {
     for row in 0..5 {
-        line(row, row);
+        line(rt, row, row)?;
     }
-    line(0, 3);
+    line(rt, 0, 3)
 }

@@ -14,13 +14,14 @@ use geometry::field::Field;
 use geometry::point::Point;
 use mesh::intake::{Settings, Sizes, intake};
 use mesh::words::{float, put_float, put_word, word};
+use std::io;
 
 // The row of the mesh's points in the table: all but the last vertex.
 const MESH: usize = 7;
 
 // What a call is tried with: the sizes, the lengths of the slices, the faults, the pattern of the last
 // vertex's coordinate, and a second element in place of 0 2 1 4 (its four vertices as decimal digits).
-#[derive(Drop)]
+#[derive(Clone, Copy)]
 struct Trial {
     sizes: Sizes,
     parameters: usize,
@@ -292,7 +293,7 @@ fn not_a_number(faults: u32) -> u64 {
     }
 }
 
-fn faulty(faults: u32) {
+fn faulty(rt: &impl Print, faults: u32) -> io::Result<()> {
     let t = exact(7, count(faults));
     let masks = 7 - one(faults, 1);
     let coordinate = not_a_number(faults);
@@ -310,10 +311,10 @@ fn faulty(faults: u32) {
         floats: t.floats,
         second: t.second,
     };
-    text(b"intake faults");
-    number(faults as u64);
-    number(tried(u) as u64);
-    text(b"\n");
+    text(rt, b"intake faults")?;
+    number(rt, faults as u64)?;
+    number(rt, tried(u) as u64)?;
+    text(rt, b"\n")
 }
 
 // 1 where k is j, else 0.
@@ -324,7 +325,7 @@ fn is(k: usize, j: usize) -> usize
 }
 
 // One of the buffers a place short: 0 none, then in the order of the lengths above; 8 a triple too many.
-fn short(k: usize) {
+fn short(rt: &impl Print, k: usize) -> io::Result<()> {
     let t = Trial {
         sizes: Sizes {
             vertices: 7,
@@ -342,28 +343,28 @@ fn short(k: usize) {
         coordinate: 0,
         second: 214,
     };
-    text(b"intake short");
-    number(k as u64);
-    number(tried(t) as u64);
-    text(b"\n");
+    text(rt, b"intake short")?;
+    number(rt, k as u64)?;
+    number(rt, tried(t) as u64)?;
+    text(rt, b"\n")
 }
 
-fn vertices(n: usize)
+fn vertices(rt: &impl Print, n: usize) -> io::Result<()>
     requires { n ≤ 5000 }
 {
-    text(b"intake vertices");
-    number(n as u64);
-    number(tried(exact(n, 2)) as u64);
-    text(b"\n");
+    text(rt, b"intake vertices")?;
+    number(rt, n as u64)?;
+    number(rt, tried(exact(n, 2)) as u64)?;
+    text(rt, b"\n")
 }
 
-fn empty(words: usize) {
+fn empty(rt: &impl Print, words: usize) -> io::Result<()> {
     let mut t = exact(0, 0);
     t.words = words;
-    text(b"intake empty");
-    number(words as u64);
-    number(tried(t) as u64);
-    text(b"\n");
+    text(rt, b"intake empty")?;
+    number(rt, words as u64)?;
+    number(rt, tried(t) as u64)?;
+    text(rt, b"\n")
 }
 
 // The last vertex at a coordinate: 2^20 and the next value, both signs, -0, an infinity, a NaN.
@@ -377,13 +378,13 @@ const COORDINATES: [u64; 7] = [
     0x7ff8_0000_0000_0000,
 ];
 
-fn coordinate(n: u64) {
+fn coordinate(rt: &impl Print, n: u64) -> io::Result<()> {
     let mut t = exact(7, 2);
     t.coordinate = n;
-    text(b"intake coordinate");
-    bits(n);
-    number(tried(t) as u64);
-    text(b"\n");
+    text(rt, b"intake coordinate")?;
+    bits(rt, n)?;
+    number(rt, tried(t) as u64)?;
+    text(rt, b"\n")
 }
 
 // The first element's vertices in every order.
@@ -392,46 +393,50 @@ const ORDERS: [u64; 24] = [
     2310, 3012, 3021, 3102, 3120, 3201, 3210,
 ];
 
-fn order(second: u64) {
+fn order(rt: &impl Print, second: u64) -> io::Result<()> {
     let mut t = exact(7, 2);
     t.second = (second % 10000) as u32;
-    text(b"intake order");
-    number(second);
-    number(tried(t) as u64);
-    text(b"\n");
+    text(rt, b"intake order")?;
+    number(rt, second)?;
+    number(rt, tried(t) as u64)?;
+    text(rt, b"\n")
 }
 
-fn all_faults() {
+fn all_faults(rt: &impl Print) -> io::Result<()> {
     for f in 0..256 {
-        faulty(f);
+        faulty(rt, f)?;
     }
+    Ok(())
 }
 
-fn all_short() {
+fn all_short(rt: &impl Print) -> io::Result<()> {
     for k in 0..9 {
-        short(k);
+        short(rt, k)?;
     }
+    Ok(())
 }
 
-fn all_coordinates() {
+fn all_coordinates(rt: &impl Print) -> io::Result<()> {
     for i in 0..7 {
-        coordinate(COORDINATES[i]);
+        coordinate(rt, COORDINATES[i])?;
     }
+    Ok(())
 }
 
-fn all_orders() {
+fn all_orders(rt: &impl Print) -> io::Result<()> {
     for i in 0..24 {
-        order(ORDERS[i]);
+        order(rt, ORDERS[i])?;
     }
+    Ok(())
 }
 
-pub(crate) fn run() {
-    all_short();
-    vertices(4096);
-    vertices(4097);
-    empty(1024);
-    empty(1023);
-    all_coordinates();
-    all_orders();
-    all_faults();
+pub(crate) fn run(rt: &impl Print) -> io::Result<()> {
+    all_short(rt)?;
+    vertices(rt, 4096)?;
+    vertices(rt, 4097)?;
+    empty(rt, 1024)?;
+    empty(rt, 1023)?;
+    all_coordinates(rt)?;
+    all_orders(rt)?;
+    all_faults(rt)
 }

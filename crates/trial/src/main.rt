@@ -1,4 +1,6 @@
 // The papers' edges, run on the compiled functions: each line says what was tried and what came.
+#![tactic(auto)]
+
 mod blocks;
 mod boxes;
 mod fields;
@@ -11,14 +13,16 @@ mod scores;
 mod show;
 mod words;
 
-fn main() {
-    roots::run();
-    scores::run();
-    ranks::run();
-    boxes::run();
-    fields::run();
-    words::run();
-    intakes::run();
-    blocks::run();
-    inside::run();
+use std::io;
+
+fn main(rt: HostRuntime) -> io::Result<()> {
+    roots::run(&rt)?;
+    scores::run(&rt)?;
+    ranks::run(&rt)?;
+    boxes::run(&rt)?;
+    fields::run(&rt)?;
+    words::run(&rt)?;
+    intakes::run(&rt)?;
+    blocks::run(&rt)?;
+    inside::run(&rt)
 }

@@ -4,6 +4,7 @@ ghost use Rattle.std.specs.Prelude.{◌<◌};
 
 use crate::show::{bits, number, of, text};
 use geometry::bounds::{canonical_value, rank_value};
+use std::io;
 
 const RANKS: [u64; 100] = [
     // M8: box 0 to 1, value 2^-12
@@ -122,7 +123,7 @@ fn at(i: usize) -> u64 {
     if i < 100 { RANKS[i] } else { 0 }
 }
 
-fn line(row: usize)
+fn line(rt: &impl Print, row: usize) -> io::Result<()>
     requires { row < 200 }
 {
     let i = 4 * row;
@@ -130,17 +131,18 @@ fn line(row: usize)
     let hi = of(at(i + 2));
     let periodic = at(i + 3);
     let value = canonical_value(of(at(i)), lo, hi, periodic == 1);
-    text(b"rank");
-    bits(at(i));
-    bits(at(i + 1));
-    bits(at(i + 2));
-    number(periodic);
-    number(rank_value(value, lo, hi));
-    text(b"\n");
+    text(rt, b"rank")?;
+    bits(rt, at(i))?;
+    bits(rt, at(i + 1))?;
+    bits(rt, at(i + 2))?;
+    number(rt, periodic)?;
+    number(rt, rank_value(value, lo, hi))?;
+    text(rt, b"\n")
 }
 
-pub(crate) fn run() {
+pub(crate) fn run(rt: &impl Print) -> io::Result<()> {
     for row in 0..25 {
-        line(row);
+        line(rt, row)?;
     }
+    Ok(())
 }

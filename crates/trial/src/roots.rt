@@ -1,6 +1,7 @@
 // The square root at special operands, at the ends of the range, at exact squares and their
 // neighbours, and beside ties.
 use crate::show::{bits, float, of, text};
+use std::io;
 
 const ROOTS: [u64; 46] = [
     // NaN of either sign, infinities, zeros
@@ -61,15 +62,16 @@ const ROOTS: [u64; 46] = [
     0x7e37_e43c_8800_759c,
 ];
 
-fn line(n: u64) {
-    text(b"root");
-    bits(n);
-    float(geometry::root::root(of(n)));
-    text(b"\n");
+fn line(rt: &impl Print, n: u64) -> io::Result<()> {
+    text(rt, b"root")?;
+    bits(rt, n)?;
+    float(rt, geometry::root::root(of(n)))?;
+    text(rt, b"\n")
 }
 
-pub(crate) fn run() {
+pub(crate) fn run(rt: &impl Print) -> io::Result<()> {
     for i in 0..46 {
-        line(ROOTS[i]);
+        line(rt, ROOTS[i])?;
     }
+    Ok(())
 }

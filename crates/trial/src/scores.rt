@@ -5,6 +5,7 @@ ghost use Rattle.std.specs.Prelude.{◌<◌};
 use crate::show::{float, number, of, text};
 use geometry::point::{Point, determinant};
 use geometry::score::{is_bad, score, squared_edges};
+use std::io;
 
 const POINTS: [u64; 180] = [
     // M4: 000, 100, 010, 001
@@ -218,7 +219,7 @@ fn point(i: usize) -> Point
     }
 }
 
-fn line(row: usize)
+fn line(rt: &impl Print, row: usize) -> io::Result<()>
     requires { row < 80 }
 {
     let i = 12 * row;
@@ -227,17 +228,18 @@ fn line(row: usize)
     let c = point(i + 6);
     let d = point(i + 9);
     let s = score(a, b, c, d);
-    text(b"score");
-    number(row as u64);
-    float(determinant(a, b, c, d));
-    float(squared_edges(a, b, c, d));
-    float(s);
-    number(is_bad(s) as u64);
-    text(b"\n");
+    text(rt, b"score")?;
+    number(rt, row as u64)?;
+    float(rt, determinant(a, b, c, d))?;
+    float(rt, squared_edges(a, b, c, d))?;
+    float(rt, s)?;
+    number(rt, is_bad(s) as u64)?;
+    text(rt, b"\n")
 }
 
-pub(crate) fn run() {
+pub(crate) fn run(rt: &impl Print) -> io::Result<()> {
     for row in 0..15 {
-        line(row);
+        line(rt, row)?;
     }
+    Ok(())
 }

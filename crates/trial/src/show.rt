@@ -1,27 +1,25 @@
 // Printing: words of text, patterns and numbers.
 use geometry::word::{from_words, pattern};
-use libc::STDOUT_FILENO;
+use std::io;
 
 // A text as it is.
-pub(crate) fn text(s: &[u8]) {
-    io::write_all(STDOUT_FILENO, s);
+pub(crate) fn text(rt: &impl Print, s: &[u8]) -> io::Result<()> {
+    rt.write_all(s)
 }
 
 // A space, and the 16 hexadecimal digits of a pattern.
-pub(crate) fn bits(n: u64) {
-    text(b" ");
-    io::print_hex(STDOUT_FILENO, n, 16);
+pub(crate) fn bits(rt: &impl Print, n: u64) -> io::Result<()> {
+    print!(rt; " {n:016x}")
 }
 
 // A space, and a number in decimal digits.
-pub(crate) fn number(n: u64) {
-    text(b" ");
-    io::print_decimal(STDOUT_FILENO, n);
+pub(crate) fn number(rt: &impl Print, n: u64) -> io::Result<()> {
+    print!(rt; " {n}")
 }
 
 // A space, and the pattern of a float.
-pub(crate) fn float(x: f64) {
-    bits(pattern(x));
+pub(crate) fn float(rt: &impl Print, x: f64) -> io::Result<()> {
+    bits(rt, pattern(x))
 }
 
 // The float of a pattern.

@@ -1,6 +1,7 @@
 // An f64 as words and as the number that keeps the order.
 use crate::show::{bits, number, of, text};
 use geometry::word::{high_word, low_word, order_bits};
+use std::io;
 
 const WORDS: [u64; 13] = [
     0x0000_0000_0000_0000,
@@ -18,18 +19,19 @@ const WORDS: [u64; 13] = [
     0xffff_ffff_ffff_ffff,
 ];
 
-fn line(n: u64) {
+fn line(rt: &impl Print, n: u64) -> io::Result<()> {
     let x = of(n);
-    text(b"words");
-    bits(n);
-    number(low_word(x) as u64);
-    number(high_word(x) as u64);
-    bits(order_bits(x));
-    text(b"\n");
+    text(rt, b"words")?;
+    bits(rt, n)?;
+    number(rt, low_word(x) as u64)?;
+    number(rt, high_word(x) as u64)?;
+    bits(rt, order_bits(x))?;
+    text(rt, b"\n")
 }
 
-pub(crate) fn run() {
+pub(crate) fn run(rt: &impl Print) -> io::Result<()> {
     for i in 0..13 {
-        line(WORDS[i]);
+        line(rt, WORDS[i])?;
     }
+    Ok(())
 }
