@@ -8,7 +8,7 @@ Each stored call becomes an equation `step call before ≡ (answer, after)`, clo
 checker computes the left side and compares all of it, every place of every buffer included. The
 equations are checked in a temporary repository that has the types and definitions of geometry, mesh
 and repair and none of their code. One thing differs there: `sqrt` of geometry takes 1586 levels,
-and 200 of them are more than the 50,000,000 steps that one declaration may take. It is replaced by
+and in an older kit 200 of them were more than the steps that one declaration may take. It is replaced by
 one of 96 levels, meant to give the same value for arguments below 2 ^ 192 (intake keeps all of them
 far under that) and wrong above. So this says nothing about `sqrt`.
 
@@ -47,7 +47,7 @@ CRATES = {"geometry": [], "mesh": ["geometry"], "repair": ["geometry", "mesh"]}
 BUFFERS = ["parameters", "points", "masks", "elements", "surface"]
 PASSES = ["improve", "smooth", "flip"]
 VERDICTS = ["EQUAL", "PARTS", "DIFFERS", "LIMIT"]
-IEEE = "add sub mul div neg lt eq le ofInt isNan".split()
+IEEE = "add sub mul div neg lt eq le of_int is_nan".split()
 
 # ---- reading: the form is told in the first lines of the file
 
@@ -122,7 +122,7 @@ def stored(text):
 
 
 def fl(bits):
-    """An f64 as `lib.Ieee` writes it, with an odd significand."""
+    """An f64 as `Rattle.std.specs.Float` writes it, with an odd significand."""
     sign = "true" if bits >> 63 else "false"
     field, digits = bits >> 52 & 0x7FF, bits & (1 << 52) - 1
     if field == 0x7FF:
@@ -177,15 +177,13 @@ def answer_text(a):
 
 
 HEAD = """-- Stored answers of the Rust as equations about the definitions.
-use mathlib.Core.Path.{_≡_, refl}
-use mathlib.Core.Bool.{true, false}
-use mathlib.Core.List.{[], _∷_}
-use mathlib.Core.Option.{none, some}
-use lib.IntN.{pos, negsuc}
-use lib.Ieee.{nan, inf, fin}
-use Rattle·geometry.specs.declared.field.Field.the-variants.{Level, Plane, Ball}
-use Rattle·repair.specs.declared.answer.Answer.the-variants.{Done, Refused}
-use Rattle·repair.specs.Step.{State, Call, Pass, step}
+use Rattle.std.specs.Prelude.{◌≡◌, true, false, List, [], ◌∷◌, pos, negsuc}
+use Rattle.std.proofs.Math.Option.{none, some}
+use Rattle.std.specs.Float.{nan, inf, fin}
+use mathlib.Core.Path.{refl}
+use Rattle.geometry.specs.declared.field.Field.TheVariants.{Level, Plane, Ball}
+use Rattle.repair.specs.declared.answer.Answer.TheVariants.{Done, Refused}
+use Rattle.repair.specs.Step.{State, Call, Pass, step}
 
 """
 
@@ -209,21 +207,18 @@ case{k} = refl
 
 # ---- in parts: the same equation, put together by the laws of parts.txt from equations of parts
 
-PARTS_HEAD = """use lib.Dec.{eqb}
-use lib.ListN.{take}
-use mathlib.Core.Bool.{cond}
-use Prim.Native.Nat.{ℕ}
-use Rattle·geometry.specs.Bounds.{spacing}
-use Rattle·mesh.specs.declared.element.Pair.{Pair}
-use Rattle·mesh.specs.Group.{groups}
-use Rattle·mesh.specs.Intake.{intake}
-use Rattle·mesh.specs.Measure.{measure}
-use Rattle·repair.specs.Mesh.{Mesh, Result, made, refused}
-use Rattle·repair.specs.Improve
-use Rattle·repair.specs.Smooth
-use Rattle·repair.specs.Step.{meshOf, given, lengthsOf, resultOf, finish}
-use Rattle·cases·specs.specs.Parts.{step-by, edges-none, edges-on, round-by, rounds-none, rounds-on, rounds-end, improve-by}
-use Rattle·cases·specs.specs.Parts.{candidatesOf, unmoved, triedOne, passed-none, passed-on, stays, groups-none, groups-on, smooth-by}
+PARTS_HEAD = """use Rattle.std.specs.Prelude.{ℕ, cond, eqb, take}
+use Rattle.geometry.specs.Bounds.{spacing}
+use Rattle.mesh.specs.declared.element.Pair.{Pair}
+use Rattle.mesh.specs.Group.{groups}
+use Rattle.mesh.specs.Intake.{intake}
+use Rattle.mesh.specs.Measure.{measure}
+use Rattle.repair.specs.Mesh.{Mesh, Result, made, refused}
+use Rattle.repair.specs.Improve
+use Rattle.repair.specs.Smooth
+use Rattle.repair.specs.Step.{mesh_of, given, lengths_of, result_of, finish}
+use Rattle.cases.proofs.Parts.{step-by, edges-none, edges-on, round-by, rounds-none, rounds-on, rounds-end, improve-by}
+use Rattle.cases.proofs.Parts.{candidates_of, unmoved, tried_one, passed-none, passed-on, stays, groups-none, groups-on, smooth-by}
 
 """
 
@@ -263,8 +258,8 @@ class Parts:
 
     def improve(self, call, state):
         """Round by round: the edges that it lists, and each of them tried."""
-        scores = "(measure (mesh0 .points))"
-        all_of = f"(call0 .options) mesh0 {scores}"
+        scores = "(measure mesh0.points)"
+        all_of = f"call0.options mesh0 {scores}"
         trace = between.Improve(call, state)
         names = {}
 
@@ -279,14 +274,14 @@ class Parts:
         for r, (edges, states) in enumerate(rounds):
             now, then = at(states[0]), at(states[-1])
             self.value(f"edges{r}", "List Pair", items(map(row, edges)))
-            self.fact(f"listed{r}", f"Improve.listedEdges {scores} (spacing (call0 .options)) ({now} .elements) ≡ edges{r}")
+            self.fact(f"listed{r}", f"Improve.listed_edges {scores} (spacing call0.options) {now}.elements ≡ edges{r}")
             chain = f"edges-none {all_of} {then}"
             for j, e in enumerate(edges):
-                self.fact(f"tried{r}-{j}", f"Improve.tryEdge {all_of} {at(states[j])} {row(e)} ≡ {at(states[j + 1])}")
+                self.fact(f"tried{r}-{j}", f"Improve.try_edge {all_of} {at(states[j])} {row(e)} ≡ {at(states[j + 1])}")
             for j in reversed(range(len(edges))):
                 others = items(map(row, edges[j + 1 :]))
                 chain = f"edges-on {all_of} {at(states[j])} {row(edges[j])} {others} tried{r}-{j} ({chain})"
-            self.fact(f"tries{r}", f"Improve.tryEdges {all_of} {now} edges{r} ≡ {then}", chain)
+            self.fact(f"tries{r}", f"Improve.try_edges {all_of} {now} edges{r} ≡ {then}", chain)
             self.fact(f"round{r}", f"Improve.round {all_of} {now} ≡ {then}", f"round-by {all_of} {now} listed{r} tries{r}")
         last = at(rounds[-1][1][-1]) if rounds else first
         chain = f"rounds-none {all_of} {last}"
@@ -296,37 +291,37 @@ class Parts:
             else:
                 chain = f"rounds-on {all_of} {call['passes'] - r - 1} {at(states[0])} round{r} refl ({chain})"
         self.fact("rounds-are", f"Improve.rounds {all_of} {call['passes']} {first} ≡ {last}", chain)
-        self.fact("mesh-made", f"Improve.renumbered mesh0 ({last} .elements) ≡ mesh1")
-        self.fact("number-made", "Improve.endNumber mesh1 ≡ 0")
-        return "Improve.improve (call0 .options) mesh0", "improve-by (call0 .options) mesh0 rounds-are mesh-made number-made refl"
+        self.fact("mesh-made", f"Improve.renumbered mesh0 {last}.elements ≡ mesh1")
+        self.fact("number-made", "Improve.end_number mesh1 ≡ 0")
+        return "Improve.improve call0.options mesh0", "improve-by call0.options mesh0 rounds-are mesh-made number-made refl"
 
     def smooth(self, call, state, after, by_candidates):
         """Group by group; if asked, one that stays though its score is low candidate by candidate."""
-        all_of = "(call0 .options) (take (call0 .count) (call0 .fields)) (call0 .regions) mesh0"
+        all_of = "call0.options (take call0.count call0.fields) call0.regions mesh0"
         groups, states = between.smooth_groups(call, state, after)
         n = state["sizes"][0]
         self.value("groups0", "List (List ℕ)", items(map(items, groups)))
-        self.fact("groups-are", "groups (call0 .options) (mesh0 .parameters) ≡ groups0")
+        self.fact("groups-are", "groups call0.options mesh0.parameters ≡ groups0")
         for i, (parameters, points, moved) in enumerate(states):
             text = record(parameters=points_text(parameters, n), points=points_text(points, n), moved=moved)
             self.value(f"state{i}", "Smooth.State", text)
         chain = f"groups-none {all_of} state{len(groups)}"
         for i, g in enumerate(groups):
-            statement = f"Smooth.smoothGroup {all_of} state{i} {items(g)} ≡ state{i + 1}"
+            statement = f"Smooth.smooth_group {all_of} state{i} {items(g)} ≡ state{i + 1}"
             tries = by_candidates and states[i] == states[i + 1] and between.is_low(state, states[i][1], g)
             self.fact(f"moved{i}", statement, self.stays(all_of, i, g, call, state, states[i][0]) if tries else "refl")
         for i in reversed(range(len(groups))):
             chain = f"groups-on {all_of} state{i} {items(groups[i])} {items(map(items, groups[i + 1 :]))} moved{i} ({chain})"
-        self.fact("groups-end", f"Smooth.smoothGroups {all_of} state0 groups0 ≡ state{len(groups)}", chain)
+        self.fact("groups-end", f"Smooth.smooth_groups {all_of} state0 groups0 ≡ state{len(groups)}", chain)
         return f"Smooth.smooth {all_of}", f"smooth-by {all_of} groups-are groups-end refl"
 
     def stays(self, all_of, i, g, call, state, parameters):
         cs = [point(map(between.bits, c)) for c in between.candidates(call, state, parameters, g[0])]
         at = f"state{i} {g[0]} {items(g)} (unmoved {all_of} state{i} {items(g)})"
-        self.fact(f"candidates{i}", f"candidatesOf {all_of} state{i} {g[0]} ≡ {items(cs)}")
+        self.fact(f"candidates{i}", f"candidates_of {all_of} state{i} {g[0]} ≡ {items(cs)}")
         chain = f"passed-none {all_of} {at}"
         for j, c in enumerate(cs):
-            self.fact(f"passed{i}-{j}", f"triedOne {all_of} {at} {c} ≡ unmoved {all_of} state{i} {items(g)}")
+            self.fact(f"passed{i}-{j}", f"tried_one {all_of} {at} {c} ≡ unmoved {all_of} state{i} {items(g)}")
         for j in reversed(range(len(cs))):
             chain = f"passed-on {all_of} {at} {cs[j]} {items(cs[j + 1 :])} passed{i}-{j} ({chain})"
         return f"stays {all_of} state{i} {g[0]} {items(g[1:])} candidates{i} ({chain})"
@@ -340,12 +335,12 @@ def in_parts(opened, by_candidates, call, state, answer, after):
     p.value("after0", "State", state_text(after))
     p.value("mesh0", "Mesh", mesh_text(state))
     p.value("mesh1", "Mesh", mesh_text(after))
-    p.fact("intake-is", "intake (given (lengthsOf call0 before0) call0 before0) ≡ 0")
-    p.fact("mesh-is", "meshOf before0 ≡ mesh0")
+    p.fact("intake-is", "intake (given (lengths_of call0 before0) call0 before0) ≡ 0")
+    p.fact("mesh-is", "mesh_of before0 ≡ mesh0")
     left, proof = p.improve(call, state) if PASSES[call["pass"]] == "improve" else p.smooth(call, state, after, by_candidates)
     p.fact("pass-is", f"{left} ≡ made {answer[0]} mesh1", proof)
-    p.text += f"""result-is : cond (eqb 0 0) (resultOf (call0 .pass) call0 mesh0) (refused 0) ≡ made {answer[0]} mesh1
-unfolding call0 Rattle·repair.specs.Step.resultOf
+    p.text += f"""result-is : cond (eqb 0 0) (result_of call0.pass call0 mesh0) (refused 0) ≡ made {answer[0]} mesh1
+unfolding call0 Rattle.repair.specs.Step.result_of
 result-is = pass-is
 
 """
@@ -353,7 +348,7 @@ result-is = pass-is
     p.text += f"""case0 : step call0 before0 ≡ ({answer_text(answer)}, after0)
 case0 = step-by call0 before0 intake-is mesh-is result-is finish-is
 """
-    return HEAD.replace("{[], _∷_}", "{List, [], _∷_}").rstrip("\n") + "\n" + PARTS_HEAD + p.text
+    return HEAD.rstrip("\n") + "\n" + PARTS_HEAD + p.text
 
 
 # ---- the temporary repository
@@ -361,7 +356,7 @@ case0 = step-by call0 before0 intake-is mesh-is result-is finish-is
 QUICK = """-- the whole root of a / d * 4 ^ l, and 1 / 2 more where it isn't exact
 unfoldable pub quick : ℕ → ℕ → ℕ → Float
 unfolding isqrt round
-quick a d l = let r = isqrt 96 (a * 4 ^ l / d) in round binary64 false (2 * r + cond (eqb (r * r * d) (a * 4 ^ l)) 0 1) (2 ^ (l + 1))
+quick a d l = let r = isqrt 96 (a * 4 ^ l / d) in round binary64 false (2 * r + cond (r * r * d == a * 4 ^ l) 0 1) (2 ^ (l + 1))
 
 unfoldable pub sqrt : Float → Float
 unfolding quick size
@@ -380,7 +375,9 @@ TYPE = re.compile(r"^(?:pub(?:\(crate\))? )?(?:struct|enum) .*?^}\n", re.M | re.
 def types_only(text):
     """The struct and enum declarations of a source file, and the types that they use; nothing where there are none."""
     types = TYPE.findall(text)
-    uses = re.findall(r"^use \w+(?:::\w+)*::[A-Z][a-z]\w*;\n", text, re.M)
+    uses = []
+    for path, name, names in re.findall(r"^use ((?:\w+::)+)(?:(\w+)|\{([^}]*)\});", text, re.M):
+        uses += [f"use {path}{n};\n" for n in re.findall(r"\w+", name or names) if re.match(r"[A-Z][a-z]", n)]
     return "".join(uses + types) if types else ""
 
 
@@ -396,7 +393,7 @@ def copy_crate(name, to):
                 modules.setdefault(file.parent.with_suffix(".rt"), "")
     for file, text in modules.items():
         folder = home if file == home / "lib.rt" else file.with_suffix("")
-        inner = "".join(f"pub mod {f.stem};\n" for f in sorted(modules) if f.parent == folder and f.name != "lib.rt")
+        inner = "#![tactic(auto)]\n" * (folder == home) + "".join(f"pub mod {f.stem};\n" for f in sorted(modules) if f.parent == folder and f.name != "lib.rt")
         there = to / "src" / file.relative_to(home)
         there.parent.mkdir(parents=True, exist_ok=True)
         there.write_text(inner + text)
@@ -425,11 +422,11 @@ def quicken(root):
 
 def opened():
     """Every definition that opens on demand."""
-    names = [f"lib.Ieee.{n}" for n in IEEE]
+    names = [f"Rattle.std.specs.Float.Ieee.{n}" for n in IEEE]
     for crate in CRATES:
         for file in sorted((HOME / "crates" / crate / "specs").glob("*.antt")):
             for name in re.findall(r"^ *unfoldable pub (\S+)", file.read_text(), re.M):
-                names.append(f"Rattle·{crate}.specs.{file.stem}.{name}")
+                names.append(f"Rattle.{crate}.specs.{file.stem}.{name}")
     return " ".join(names)
 
 
@@ -441,17 +438,17 @@ def make(folder, edits):
         change(folder / "crates", edit)
     cases = folder / "crates/cases"
     (cases / "src").mkdir(parents=True)
-    (cases / "specs").mkdir()
-    (cases / "src/lib.rt").write_text("// Equations only.\n")
-    (cases / "specs/Lib.antt").write_text("pub mod Cases\n")
+    (cases / "proofs").mkdir()
+    (cases / "src/lib.rt").write_text("// Equations only.\n#![tactic(auto)]\n")
+    (cases / "proofs/Lib.antt").write_text("pub mod Cases\n")
     lines = [f"{crate}: {' '.join(deps)}" for crate, deps in CRATES.items()] + [f"cases: {' '.join(CRATES)}"]
     (folder / "crates.txt").write_text("\n".join(lines) + "\n")
-    return cases / "specs/Cases.antt"
+    return cases / "proofs/Cases.antt"
 
 
 def check(folder):
     """What `rt check` says of the equations: its status, the name and the text of each error, and all of it."""
-    run = subprocess.run(["rt", "check", "cases"], cwd=folder, capture_output=True, text=True)
+    run = subprocess.run(["rt", "check"], cwd=folder / "crates/cases", capture_output=True, text=True)
     text = run.stdout + run.stderr
     return run.returncode, re.findall(r"error: (?:`([^`]*)`: )?(.*)", text), text
 

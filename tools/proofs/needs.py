@@ -1,5 +1,7 @@
 #!/usr/bin/env python3
-"""Proof files of a crate, run in the repository's folder.
+"""Proof files of the form of an older kit, rattle-kit-5b-plain: one Proof.antt for a function, facts reached by `.before`. It runs `rt dev` of that
+kit, and does nothing with today's: there `rt check --start FUNCTION`, in the crate's folder, writes Invariants.antt and Answers.antt to start from,
+and `rt check --allow-holes` prints each goal that is open with its facts. Kept for patches that were written in that form.
 
   needs.py new CRATE              writes each missing Proof.antt that `rt dev CRATE` offers, `search needs` at every need
   needs.py list CRATE FUNCTION    for each need of the function, the facts that it can reach and how many `.before` away each stands

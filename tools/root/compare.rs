@@ -1,8 +1,8 @@
 // Compares `root` of crate geometry with the machine's square root, bit for bit, and times both.
 //
-// In the repository's folder, with a crate `export` that has `#[no_mangle] pub extern "C" fn h_root(x: f64) -> f64`:
+// In the repository's folder, with a crate `export` that has `#[unsafe(no_mangle)] pub extern "C" fn h_root(x: f64) -> f64`:
 //
-//     rt staticlib export
+//     bash tools/archive export
 //     rustc -O -L target/staticlib -l static=export tools/root/compare.rs -o target/compare-root
 //     target/compare-root 4000000
 //
