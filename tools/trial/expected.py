@@ -19,12 +19,16 @@ from vectors import dot, of  # noqa: E402
 NAN = 0x7FF8000000000000
 
 
+NAMES = {"Level": 0, "Plane": 1, "Ball": 2, "Word": 1, "Float": 2, "false": 0, "true": 1}
+
+
 def cases(module, name):
-    """The numbers of a constant of the trial program."""
+    """The numbers of a constant of the trial program, in their order: also those that names stand for."""
     text = open(f"crates/trial/src/{module}.rt").read()
-    body = re.search(rf"const {name}: \[u64; \d+\] = \[(.*?)\];", text, re.S).group(1)
+    body = re.search(rf"const {name}: .*? = \[(.*?)\];\n", text, re.S).group(1)
     body = re.sub(r"//.*", "", body)
-    return [int(word.replace("_", ""), 16) for word in re.findall(r"0x[0-9a-f_]+", body)]
+    words = re.findall(rf"\b(?:0x[0-9a-f_]+|\d+|{'|'.join(NAMES)})\b", body)
+    return [NAMES[word] if word in NAMES else int(word.replace("_", ""), 0) for word in words]
 
 
 def float_rows(module, name):
@@ -59,7 +63,7 @@ def order_bits(x):
 
 for n in cases("roots", "ROOTS"):
     print(f"root {n:016x} {hexed(root(of(n)))}")
-for i, row in enumerate(rows(cases("scores", "POINTS"), 12)):
+for i, row in enumerate(rows(cases("scores", "ELEMENTS"), 12)):
     p = [[of(n) for n in point] for point in rows(row, 3)]
     s = score(p)
     print(f"score {i} {hexed(determinant(p), squared_edges(p), s)} {int(s < 0.1)}")

@@ -1,8 +1,8 @@
 -- How the exported functions write their answers. Definitions only.
 use Rattle.std.specs.Prelude.{ℕ, zero, suc, Bool, true, false, List, Float, set}
 use Rattle.geometry.specs.declared.point.Point.{Point}
-use Rattle.repair.specs.declared.project.Projected.{Projected}
-use Rattle.repair.specs.declared.project.Projected.TheVariants.{Found, Nothing}
+use Rattle.repair.specs.Project.{Projected}
+use Rattle.std.specs.Prelude.{Some, None}
 
 -- the part in direction 0, 1, or 2 from there on
 abbrev pub along : Point → ℕ → Float
@@ -17,5 +17,5 @@ as_number false = 0
 
 -- 1 with the point over what stood there, or 0
 abbrev pub point_over : List Float → Projected → ℕ × List Float
-point_over l (Found p) = (1, set (set (set l 0 p.x) 1 p.y) 2 p.z)
-point_over l Nothing = (0, l)
+point_over l (Some p) = (1, set (set (set l 0 p.x) 1 p.y) 2 p.z)
+point_over l None = (0, l)

@@ -16,7 +16,7 @@ ghost use Rattle.mesh.specs.Words.{copied};
 ghost use Rattle.halmafir.specs.Arrays.{point_of, bounds_of, field_of};
 ghost use Rattle.export.specs.Answers.{along, as_number};
 
-use geometry::bounds::{Cells, Options};
+use geometry::bounds::{Cells, Options, Span};
 use geometry::point::Point;
 use halmafir::arrays::{bounds_of, field_of};
 
@@ -35,6 +35,17 @@ fn point(p: &[f64; 12], i: usize) -> Point
         x: p[i],
         y: p[i + 1],
         z: p[i + 2],
+    }
+}
+
+// The point of three numbers.
+pub(crate) fn point_in(p: &[f64; 3]) -> Point
+    ensures { result ≡ point_of p.now 0 }
+{
+    Point {
+        x: p[0],
+        y: p[1],
+        z: p[2],
     }
 }
 
@@ -63,11 +74,7 @@ pub extern "C" fn h_score(p: &[f64; 12]) -> f64
 pub extern "C" fn h_norm(p: &[f64; 3]) -> f64
     ensures { result ≡ norm (point_of p.now 0) }
 {
-    geometry::point::norm(Point {
-        x: p[0],
-        y: p[1],
-        z: p[2],
-    })
+    point_in(p).norm()
 }
 
 #[unsafe(no_mangle)]
@@ -76,7 +83,7 @@ pub extern "C" fn h_spacing(b: &[f64; 6], x: u32, y: u32, z: u32) -> f64
 {
     geometry::bounds::spacing(Options {
         bounds: bounds_of(b),
-        cells: Cells { x: x, y: y, z: z },
+        cells: Cells { x, y, z },
         periodic: 0,
         passes: 0,
     })
@@ -86,36 +93,23 @@ pub extern "C" fn h_spacing(b: &[f64; 6], x: u32, y: u32, z: u32) -> f64
 pub extern "C" fn h_rank(value: f64, lo: f64, hi: f64, periodic: u32) -> u64
     ensures { result ≡ rank_value (canonical_value value lo hi (eqb (periodic % 2) 1)) lo hi }
 {
-    let v = geometry::bounds::canonical_value(value, lo, hi, periodic % 2 == 1);
-    geometry::bounds::rank_value(v, lo, hi)
+    let span = Span { lo, hi };
+    let v = span.canonical_value(value, periodic % 2 == 1);
+    span.rank_value(v)
 }
 
 #[unsafe(no_mangle)]
 pub extern "C" fn h_cap(b: &[f64; 6], p: &[f64; 3]) -> u64
     ensures { result ≡ cap (point_of p.now 0) (bounds_of b.now) }
 {
-    geometry::bounds::cap(
-        Point {
-            x: p[0],
-            y: p[1],
-            z: p[2],
-        },
-        bounds_of(b),
-    )
+    geometry::bounds::cap(point_in(p), bounds_of(b))
 }
 
 #[unsafe(no_mangle)]
 pub extern "C" fn h_field_value(kind: u32, f: &[f64; 4], p: &[f64; 3]) -> f64
     ensures { result ≡ value (field_of kind f.now) (point_of p.now 0) }
 {
-    geometry::field::value(
-        field_of(kind, f),
-        Point {
-            x: p[0],
-            y: p[1],
-            z: p[2],
-        },
-    )
+    geometry::field::value(field_of(kind, f), point_in(p))
 }
 
 // The part in direction 0, 1, or 2 from there on.
@@ -135,15 +129,10 @@ fn along(g: Point, axis: u32) -> f64
 pub extern "C" fn h_field_gradient(kind: u32, f: &[f64; 4], p: &[f64; 3], axis: u32) -> f64
     ensures { result ≡ along (gradient (field_of kind f.now) (point_of p.now 0)) axis }
 {
-    let g = geometry::field::gradient(
-        field_of(kind, f),
-        Point {
-            x: p[0],
-            y: p[1],
-            z: p[2],
-        },
-    );
-    along(g, axis)
+    along(
+        geometry::field::gradient(field_of(kind, f), point_in(p)),
+        axis,
+    )
 }
 
 // 1 where a surface of as many triples as the slice holds has a nonmanifold vertex, or where the work is

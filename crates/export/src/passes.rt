@@ -7,34 +7,25 @@ ghost use Rattle.repair.specs.Project.{project};
 ghost use Rattle.halmafir.specs.Arrays.{point_of, bounds_of, fields_of, count_of, settings_of};
 ghost use Rattle.export.specs.Answers.{as_number, point_over};
 
+use crate::point_in;
 use geometry::point::Point;
 use halmafir::arrays::{bounds_of, fields_of, options_of, settings_of};
 use mesh::link::link_ok_in;
 use mesh::words::copy_into;
-use repair::project::{Projected, project_candidate};
-
-fn first(p: &[f64; 3]) -> Point
-    ensures { result ≡ point_of p.now 0 }
-{
-    Point {
-        x: p[0],
-        y: p[1],
-        z: p[2],
-    }
-}
+use repair::project::project_candidate;
 
 // Puts the point found and gives 1, or gives 0.
-fn put_point(to: &mut [f64; 3], found: Projected) -> u32
+fn put_point(to: &mut [f64; 3], found: Option<Point>) -> u32
     ensures { ◌≡◌ {A = ℕ × List Float} (result, to.new) (point_over to.old found) }
 {
     match found {
-        Projected::Found(p) => {
+        Some(p) => {
             to[0] = p.x;
             to[1] = p.y;
             to[2] = p.z;
             1
         }
-        Projected::Nothing => 0,
+        None => 0,
     }
 }
 
@@ -61,10 +52,10 @@ pub extern "C" fn h_project(
     let o = options_of(settings, numbers);
     let found = project_candidate(
         o.bounds,
-        first(origin),
+        point_in(origin),
         fields_of(settings, numbers),
         count(settings) as usize,
-        first(candidate),
+        point_in(candidate),
     );
     put_point(point, found)
 }
@@ -125,7 +116,11 @@ pub extern "C" fn h_intake(
 {
     let s = settings_of(sizes, settings, numbers);
     let f = fields_of(settings, numbers);
-    mesh::intake::intake(
+    let found = mesh::intake::intake(
         s, f, parameters, points, masks, elements, surface, words, floats,
-    )
+    );
+    match found {
+        Ok(()) => 0,
+        Err(refusal) => u32::from(refusal),
+    }
 }

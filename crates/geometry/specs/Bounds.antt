@@ -5,6 +5,8 @@ use Rattle.std.specs.Float.Ieee.{eq, of_int}
 use Rattle.geometry.specs.declared.point.Point.{Point}
 use Rattle.geometry.specs.declared.bounds.Bounds.{Bounds}
 use Rattle.geometry.specs.declared.bounds.Options.{Options}
+use Rattle.geometry.specs.declared.bounds.Axis.{Axis}
+use Rattle.geometry.specs.declared.bounds.Axis.TheVariants.{X, Y, Z}
 use Rattle.geometry.specs.Float.{◌-₆₄◌, ◌/₆₄◌, smaller}
 
 -- "(hi − lo) / cells", cells as the f64 of that value, which is exact for a u32
@@ -18,6 +20,12 @@ spacing o =
     let hi = o.bounds.hi in
     let cells = o.cells in
     smaller (smaller (smaller (inf false) (cell_size lo.x hi.x cells.x)) (cell_size lo.y hi.y cells.y)) (cell_size lo.z hi.z cells.z)
+
+-- the place of a direction's bit
+abbrev pub place_of : Axis → ℕ
+place_of X = 0
+place_of Y = 1
+place_of Z = 2
 
 -- "periodic bits (x is 1, y 2, z 4)": the bit of weight 2 ^ axis, for axis 0, 1, 2
 abbrev pub periodic_in : ℕ → ℕ → Bool

@@ -1,10 +1,12 @@
 -- Fields (document 01, "Field"): "a field is one of three kinds, each with its own floats". Each operation is rounded once.
 -- Definitions only.
-use Rattle.std.specs.Prelude.{ℕ, false, pos, Float}
+use Rattle.std.specs.Prelude.{◌≡◌, ℕ, ◌<◌, false, Result, MatchResult, pos, Float}
 use Rattle.std.specs.Float.{fin}
 use Rattle.geometry.specs.declared.point.Point.{Point}
 use Rattle.geometry.specs.declared.field.Field.{Field}
 use Rattle.geometry.specs.declared.field.Field.TheVariants.{Level, Plane, Ball}
+use Rattle.geometry.specs.declared.field.Kind.{Kind}
+use Rattle.geometry.specs.declared.field.UnknownKind.{UnknownKind}
 use Rattle.geometry.specs.Float.{◌+₆₄◌, ◌-₆₄◌, ◌*₆₄◌, zero64, one64}
 use Rattle.geometry.specs.Point.{difference, dot}
 use Rattle.geometry.specs.Root.{sqrt}
@@ -14,6 +16,16 @@ abbrev pub kind : Field → ℕ
 kind (Level c) = 0
 kind (Plane n d) = 1
 kind (Ball c r) = 2
+
+-- the same, of a kind by itself
+abbrev pub number_of : Kind → ℕ
+number_of Kind.Level = 0
+number_of Kind.Plane = 1
+number_of Kind.Ball = 2
+
+-- what reading a number as a kind gives: the kind that has it, or an error with a number that none has
+abbrev pub NumberOf : ℕ → Result Kind UnknownKind → Type 0
+NumberOf n r = MatchResult r (λ kind. number_of kind ≡ n) (λ e. (e.0 ≡ n) × (2 < n))
 
 -- "level (z − c), plane (n·p + d), ball (|p − c|² − r²)"
 abbrev pub value : Field → Point → Float

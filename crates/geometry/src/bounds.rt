@@ -1,6 +1,6 @@
 // The box by value: the spacing h, ranks, and the bits for lying on the box.
 ghost use Rattle.std.specs.Prelude.{◌≡◌};
-ghost use Rattle.geometry.specs.Bounds.{cell_size, spacing, periodic_in, canonical_value, canonical, side, cap, stratum};
+ghost use Rattle.geometry.specs.Bounds.{place_of, cell_size, spacing, periodic_in, canonical_value, canonical, side, cap, stratum};
 ghost use Rattle.geometry.specs.Rank.{nearest_away, rank_value, rank};
 
 use crate::float::smaller;
@@ -10,6 +10,21 @@ use crate::point::Point;
 pub struct Bounds {
     pub lo: Point,
     pub hi: Point,
+}
+
+// The box in one direction.
+#[derive(Clone, Copy)]
+pub struct Span {
+    pub lo: f64,
+    pub hi: f64,
+}
+
+// The three directions.
+#[derive(Clone, Copy, PartialEq, Eq, Debug)]
+pub enum Axis {
+    X,
+    Y,
+    Z,
 }
 
 #[derive(Clone, Copy)]
@@ -36,56 +51,123 @@ pub struct Ranks {
     pub z: u64,
 }
 
-// (hi - lo) / cells.
-pub fn cell_size(lo: f64, hi: f64, cells: u32) -> f64
-    ensures { result ≡ cell_size lo hi cells }
-{
-    (hi - lo) / (cells as f64)
+// The place of a direction's bit.
+impl From<Axis> for u32 {
+    ghost from_gives = { λ axis n. n ≡ place_of axis };
+
+    fn from(axis: Axis) -> u32 {
+        match axis {
+            Axis::X => 0,
+            Axis::Y => 1,
+            Axis::Z => 2,
+        }
+    }
+}
+
+impl Bounds {
+    fn x(self) -> Span
+        ensures { result ≡ record { lo = self.lo.x; hi = self.hi.x } }
+    {
+        Span {
+            lo: self.lo.x,
+            hi: self.hi.x,
+        }
+    }
+
+    fn y(self) -> Span
+        ensures { result ≡ record { lo = self.lo.y; hi = self.hi.y } }
+    {
+        Span {
+            lo: self.lo.y,
+            hi: self.hi.y,
+        }
+    }
+
+    fn z(self) -> Span
+        ensures { result ≡ record { lo = self.lo.z; hi = self.hi.z } }
+    {
+        Span {
+            lo: self.lo.z,
+            hi: self.hi.z,
+        }
+    }
+}
+
+impl Span {
+    // (hi - lo) / cells.
+    fn cell_size(self, cells: u32) -> f64
+        ensures { result ≡ cell_size self.lo self.hi cells }
+    {
+        (self.hi - self.lo) / f64::from(cells)
+    }
+
+    // In a periodic direction lo for hi.
+    pub fn canonical_value(self, value: f64, periodic: bool) -> f64
+        ensures { result ≡ canonical_value value self.lo self.hi periodic }
+    {
+        if periodic && value == self.hi {
+            self.lo
+        } else {
+            value
+        }
+    }
+
+    // The rank of a value in one direction.
+    pub fn rank_value(self, value: f64) -> u64
+        ensures { result ≡ rank_value value self.lo self.hi }
+    {
+        nearest_away((value - self.lo) / (self.hi - self.lo) * 100000000000.0)
+    }
+
+    // 1 for exactly on lo, else 2 for exactly on hi, else 0: the two bits of a direction in a cap.
+    fn side(self, value: f64) -> u64
+        ensures { result ≡ side value self.lo self.hi }
+    {
+        if value == self.lo {
+            1
+        } else if value == self.hi {
+            2
+        } else {
+            0
+        }
+    }
 }
 
 // h: the smallest cell size.
 pub fn spacing(o: Options) -> f64
     ensures { result ≡ spacing o }
 {
-    let lo = o.bounds.lo;
-    let hi = o.bounds.hi;
-    let x = smaller(1.0 / 0.0, cell_size(lo.x, hi.x, o.cells.x));
-    let y = smaller(x, cell_size(lo.y, hi.y, o.cells.y));
-    smaller(y, cell_size(lo.z, hi.z, o.cells.z))
+    let b = o.bounds;
+    let x = smaller(f64::INFINITY, b.x().cell_size(o.cells.x));
+    let y = smaller(x, b.y().cell_size(o.cells.y));
+    smaller(y, b.z().cell_size(o.cells.z))
 }
 
-// Whether the direction of an axis, 0, 1 or 2, is periodic.
+// Whether the bit of a direction is set: any number may be asked for, and from 32 on none is set.
 pub fn periodic_in(periodic: u32, axis: u32) -> bool
     ensures { result ≡ periodic_in periodic axis }
 {
-    if axis < 32 {
-        return (periodic >> axis) % 2 == 1;
-    }
-    false
+    axis < 32 && (periodic >> axis) % 2 == 1
 }
 
-// In a periodic direction lo for hi.
-pub fn canonical_value(value: f64, lo: f64, hi: f64, periodic: bool) -> f64
-    ensures { result ≡ canonical_value value lo hi periodic }
-{
-    if periodic {
-        if value == hi {
-            return lo;
-        }
+impl Options {
+    pub fn is_periodic(self, axis: Axis) -> bool
+        ensures { result ≡ periodic_in self.periodic (place_of axis) }
+    {
+        periodic_in(self.periodic, u32::from(axis))
     }
-    value
 }
 
 // p with lo for hi in each periodic direction.
+#[tactic(auto, unfolding(crate::specs::Bounds::canonical))]
 pub fn canonical(p: Point, o: Options) -> Point
     ensures { result ≡ canonical p o }
 {
-    let lo = o.bounds.lo;
-    let hi = o.bounds.hi;
+    let b = o.bounds;
     Point {
-        x: canonical_value(p.x, lo.x, hi.x, periodic_in(o.periodic, 0)),
-        y: canonical_value(p.y, lo.y, hi.y, periodic_in(o.periodic, 1)),
-        z: canonical_value(p.z, lo.z, hi.z, periodic_in(o.periodic, 2)),
+        x: b.x().canonical_value(p.x, o.is_periodic(Axis::X)),
+        y: b.y().canonical_value(p.y, o.is_periodic(Axis::Y)),
+        z: b.z().canonical_value(p.z, o.is_periodic(Axis::Z)),
     }
 }
 
@@ -112,47 +194,28 @@ pub fn nearest_away(q: f64) -> u64
     0
 }
 
-// The rank of a value in one direction.
-pub fn rank_value(value: f64, lo: f64, hi: f64) -> u64
-    ensures { result ≡ rank_value value lo hi }
-{
-    nearest_away((value - lo) / (hi - lo) * 100000000000.0)
-}
-
 // The rank of p: in a periodic direction hi counts as lo.
+#[tactic(auto, unfolding(crate::specs::Rank::rank))]
 pub fn rank(p: Point, o: Options) -> Ranks
     ensures { result ≡ rank p o }
 {
     let q = canonical(p, o);
-    let lo = o.bounds.lo;
-    let hi = o.bounds.hi;
+    let b = o.bounds;
     Ranks {
-        x: rank_value(q.x, lo.x, hi.x),
-        y: rank_value(q.y, lo.y, hi.y),
-        z: rank_value(q.z, lo.z, hi.z),
+        x: b.x().rank_value(q.x),
+        y: b.y().rank_value(q.y),
+        z: b.z().rank_value(q.z),
     }
-}
-
-// 1 for exactly on lo, else 2 for exactly on hi, else 0.
-pub fn side(value: f64, lo: f64, hi: f64) -> u64
-    ensures { result ≡ side value lo hi }
-{
-    if value == lo {
-        return 1;
-    }
-    if value == hi {
-        return 2;
-    }
-    0
 }
 
 // Bits 32 to 37: two a direction, the lower for lying on lo, the upper for lying on hi.
+#[tactic(auto, unfolding(crate::specs::Bounds::cap))]
 pub fn cap(p: Point, b: Bounds) -> u64
     ensures { result ≡ cap p b }
 {
-    let x = side(p.x, b.lo.x, b.hi.x);
-    let y = side(p.y, b.lo.y, b.hi.y);
-    let z = side(p.z, b.lo.z, b.hi.z);
+    let x = b.x().side(p.x);
+    let y = b.y().side(p.y);
+    let z = b.z().side(p.z);
     x * 0x1_0000_0000 + y * 0x4_0000_0000 + z * 0x10_0000_0000
 }
 

@@ -1,8 +1,8 @@
 // Fields: their kind, value and gradient at a point.
 ghost use Rattle.std.specs.Prelude.{◌≡◌};
-ghost use Rattle.geometry.specs.Field.{kind, value, gradient, magnitude};
+ghost use Rattle.geometry.specs.Field.{kind, number_of, NumberOf, value, gradient, magnitude};
 
-use crate::point::{Point, dot, sub};
+use crate::point::Point;
 use crate::root::root;
 
 // Level(c), Plane(n, d), Ball(c, r).
@@ -13,14 +13,54 @@ pub enum Field {
     Ball(Point, f64),
 }
 
-// The number of a field's kind.
-pub fn kind(f: Field) -> u32
-    ensures { result ≡ kind f }
-{
-    match f {
-        Field::Level(_) => 0,
-        Field::Plane(_, _) => 1,
-        Field::Ball(_, _) => 2,
+// The kinds of fields.
+#[derive(Clone, Copy, PartialEq, Eq, Debug)]
+pub enum Kind {
+    Level,
+    Plane,
+    Ball,
+}
+
+// A number that no kind has.
+#[derive(Clone, Copy, PartialEq, Eq, Debug)]
+pub struct UnknownKind(pub u32);
+
+impl From<Kind> for u32 {
+    ghost from_gives = { λ kind n. n ≡ number_of kind };
+
+    fn from(kind: Kind) -> u32 {
+        match kind {
+            Kind::Level => 0,
+            Kind::Plane => 1,
+            Kind::Ball => 2,
+        }
+    }
+}
+
+impl TryFrom<u32> for Kind {
+    type Error = UnknownKind;
+
+    ghost try_from_gives = { NumberOf };
+
+    fn try_from(n: u32) -> Result<Kind, UnknownKind> {
+        match n {
+            0 => Ok(Kind::Level),
+            1 => Ok(Kind::Plane),
+            2 => Ok(Kind::Ball),
+            _ => Err(UnknownKind(n)),
+        }
+    }
+}
+
+impl Field {
+    pub fn kind(self) -> Kind
+        ensures { number_of result ≡ kind self }
+    {
+        match self {
+            Field::Level(_) => Kind::Level,
+            Field::Plane(_, _) => Kind::Plane,
+            Field::Ball(_, _) => Kind::Ball,
+        }
     }
 }
 
@@ -30,10 +70,10 @@ pub fn value(f: Field, p: Point) -> f64
 {
     match f {
         Field::Level(c) => p.z - c,
-        Field::Plane(n, d) => dot(n, p) + d,
+        Field::Plane(n, d) => n.dot(p) + d,
         Field::Ball(c, r) => {
-            let e = sub(p, c);
-            dot(e, e) - r * r
+            let e = p - c;
+            e.dot(e) - r * r
         }
     }
 }
@@ -50,7 +90,7 @@ pub fn gradient(f: Field, p: Point) -> Point
         },
         Field::Plane(n, _) => n,
         Field::Ball(c, _) => {
-            let e = sub(p, c);
+            let e = p - c;
             Point {
                 x: 2.0 * e.x,
                 y: 2.0 * e.y,
@@ -64,5 +104,5 @@ pub fn gradient(f: Field, p: Point) -> Point
 pub fn magnitude(g: Point) -> f64
     ensures { result ≡ magnitude g }
 {
-    root(dot(g, g))
+    root(g.dot(g))
 }

@@ -3,6 +3,7 @@ ghost use Rattle.std.specs.Prelude.{◌≡◌};
 ghost use Rattle.geometry.specs.Point.{difference, dot, cross, norm, determinant};
 
 use crate::root::root;
+use std::ops::Sub;
 
 #[derive(Clone, Copy)]
 pub struct Point {
@@ -12,44 +13,52 @@ pub struct Point {
 }
 
 // a - b, per direction.
-pub fn sub(a: Point, b: Point) -> Point
-    ensures { result ≡ difference a b }
-{
-    Point {
-        x: a.x - b.x,
-        y: a.y - b.y,
-        z: a.z - b.z,
+impl Sub for Point {
+    type Output = Point;
+
+    ghost sub_gives = { λ a b d. d ≡ difference a b };
+
+    fn sub(self, other: Point) -> Point {
+        Point {
+            x: self.x - other.x,
+            y: self.y - other.y,
+            z: self.z - other.z,
+        }
     }
 }
 
-// The three products, added left to right.
-pub fn dot(a: Point, b: Point) -> f64
-    ensures { result ≡ dot a b }
-{
-    a.x * b.x + a.y * b.y + a.z * b.z
-}
-
-// The vector product.
-pub fn cross(a: Point, b: Point) -> Point
-    ensures { result ≡ cross a b }
-{
-    Point {
-        x: a.y * b.z - a.z * b.y,
-        y: a.z * b.x - a.x * b.z,
-        z: a.x * b.y - a.y * b.x,
+impl Point {
+    // The three products, added left to right.
+    pub fn dot(self, other: Point) -> f64
+        ensures { result ≡ dot self other }
+    {
+        self.x * other.x + self.y * other.y + self.z * other.z
     }
-}
 
-// The length of a vector.
-pub fn norm(a: Point) -> f64
-    ensures { result ≡ norm a }
-{
-    root(dot(a, a))
+    // The vector product.
+    pub fn cross(self, other: Point) -> Point
+        ensures { result ≡ cross self other }
+    {
+        Point {
+            x: self.y * other.z - self.z * other.y,
+            y: self.z * other.x - self.x * other.z,
+            z: self.x * other.y - self.y * other.x,
+        }
+    }
+
+    // The length of a vector.
+    #[tactic(auto, unfolding(crate::specs::Point::norm))]
+    pub fn norm(self) -> f64
+        ensures { result ≡ norm self }
+    {
+        root(self.dot(self))
+    }
 }
 
 // Six times the signed volume of the element a b c d.
+#[tactic(auto, unfolding(crate::specs::Point::determinant))]
 pub fn determinant(a: Point, b: Point, c: Point, d: Point) -> f64
     ensures { result ≡ determinant a b c d }
 {
-    dot(sub(b, a), cross(sub(c, a), sub(d, a)))
+    (b - a).dot((c - a).cross(d - a))
 }

@@ -9,6 +9,7 @@ use std::num::wrapping_sub_u64;
 
 // The whole root of y * 2 ^ 53, cut: 54 binary digits, one a turn. s is twice the root so far, and
 // b / 2 the weight of the digit that is tried.
+// Kept by hand: b is halved each turn, so it is no index.
 fn root_digits(y: u64) -> u64
     requires { y < 2 ^ 55 }
     ensures { (result * result ≤ y * 2 ^ 53) × (y * 2 ^ 53 < (result + 1) * (result + 1)) }
@@ -118,7 +119,7 @@ pub fn root(x: f64) -> f64
             return root_of_parts(digits + 0x10_0000_0000_0000, field + 1073, bits);
         }
         // subnormal
-        let shift = (u64::leading_zeros(digits) as u64) - 11;
+        let shift = (digits.leading_zeros() as u64) - 11;
         let m = digits << shift;
         let a = 1074 - shift;
         return root_of_parts(m, a, m + a % 2 * 0x10_0000_0000_0000);

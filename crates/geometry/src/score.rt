@@ -3,18 +3,20 @@ ghost use Rattle.std.specs.Prelude.{◌≡◌};
 ghost use Rattle.geometry.specs.Score.{squared_edge, squared_edges, score, bad, lowest};
 
 use crate::float::{absolute, smaller};
-use crate::point::{Point, determinant, dot, sub};
+use crate::point::{Point, determinant};
 use crate::root::root;
 
 // The squared length of the edge from a to b.
+#[tactic(auto, unfolding(crate::specs::Score::squared_edge))]
 pub fn squared_edge(a: Point, b: Point) -> f64
     ensures { result ≡ squared_edge a b }
 {
-    let e = sub(b, a);
-    dot(e, e)
+    let e = b - a;
+    e.dot(e)
 }
 
 // L: the sum of the six squared edges.
+#[tactic(auto, unfolding(crate::specs::Score::squared_edges))]
 pub fn squared_edges(a: Point, b: Point, c: Point, d: Point) -> f64
     ensures { result ≡ squared_edges a b c d }
 {
@@ -50,11 +52,5 @@ pub fn is_bad(s: f64) -> bool
 pub fn lowest(scores: &[f64]) -> f64
     ensures { result ≡ lowest scores.now }
 {
-    let mut low = 1.0;
-    let mut i = 0;
-    while i < scores.len() {
-        low = smaller(low, scores[i]);
-        i += 1;
-    }
-    low
+    scores.iter().copied().fold(1.0, smaller)
 }

@@ -3,7 +3,7 @@ use Rattle.std.specs.Prelude.{ℕ, List, Float}
 use Rattle.mesh.specs.Words.{zero_words, zero_floats}
 use Rattle.mesh.specs.Intake.{refusal_of}
 use Rattle.mesh.specs.Surface as surface
-use Rattle.repair.specs.declared.answer.Answer.{Answer}
+use Rattle.repair.specs.Step.{Answer}
 use Rattle.repair.specs.Step.{State, Call, step, number_of, values_of, over}
 
 -- ---- a pass

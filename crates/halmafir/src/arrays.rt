@@ -3,7 +3,7 @@ ghost use Rattle.std.specs.Prelude.{◌≡◌, ◌<◌};
 ghost use Rattle.halmafir.specs.Arrays.{bounds_of, field_of, field_at, fields_of, options_of, sizes_of, settings_of};
 
 use geometry::bounds::{Bounds, Cells, Options};
-use geometry::field::Field;
+use geometry::field::{Field, Kind};
 use geometry::point::Point;
 use mesh::intake::{Settings, Sizes};
 
@@ -25,25 +25,21 @@ pub fn bounds_of(b: &[f64; 6]) -> Bounds
     }
 }
 
-// Kind 0 is a level, 1 a plane, 2 a ball. An unknown kind is a level at NaN, which intake refuses with the same number.
+// A kind and four numbers. An unknown kind is a level at NaN, which intake refuses with the same number.
 pub fn field_of(kind: u32, f: &[f64; 4]) -> Field
     ensures { result ≡ field_of kind f.now }
 {
-    if kind == 0 {
-        return Field::Level(f[0]);
-    }
     let p = Point {
         x: f[0],
         y: f[1],
         z: f[2],
     };
-    if kind == 1 {
-        return Field::Plane(p, f[3]);
+    match Kind::try_from(kind) {
+        Ok(Kind::Level) => Field::Level(f[0]),
+        Ok(Kind::Plane) => Field::Plane(p, f[3]),
+        Ok(Kind::Ball) => Field::Ball(p, f[3]),
+        Err(_) => Field::Level(f64::NAN),
     }
-    if kind == 2 {
-        return Field::Ball(p, f[3]);
-    }
-    Field::Level(0.0 / 0.0)
 }
 
 // Settings are three cells, periodic bits, passes, how many fields there are, and the kinds of eight; numbers are a box, and four for each of
@@ -65,6 +61,7 @@ fn field_at(settings: &[u32; 14], numbers: &[f64; 38], j: usize) -> Field
 pub fn fields_of(settings: &[u32; 14], numbers: &[f64; 38]) -> [Field; 8]
     ensures { result ≡ fields_of settings.now numbers.now }
 {
+    // Kept by hand: the eight places in a list are the definition's own form; with `std::array::from_fn` eight equal fields were not proved.
     [
         field_at(settings, numbers, 0),
         field_at(settings, numbers, 1),
@@ -91,7 +88,7 @@ pub fn options_of(settings: &[u32; 14], numbers: &[f64; 38]) -> Options
     };
     Options {
         bounds: bounds_of(&sides),
-        cells: cells,
+        cells,
         periodic: settings[3],
         passes: settings[4],
     }

@@ -3,8 +3,6 @@ ghost use Rattle.std.specs.Prelude.{◌≡◌};
 ghost use Rattle.mesh.specs.Surface.{boundary_call};
 ghost use Rattle.halmafir.specs.Called.{Bounded, bounded};
 
-use mesh::boundary::Outcome;
-
 // The sorted boundary of the first `count` elements, at the front of `surface`, with 0 returned and the number of its triples in `triples`;
 // or a number of document 01's table returned, with 0 in `triples` and the surface as it was. The work is all zeros afterwards.
 pub fn halmafir_boundary(
@@ -19,13 +17,13 @@ pub fn halmafir_boundary(
 {
     let found = mesh::boundary::boundary(elements, count, surface, words);
     match found {
-        Outcome::Surface(c) => {
+        Ok(c) => {
             *triples = c;
             0
         }
-        Outcome::Refused(number) => {
+        Err(refusal) => {
             *triples = 0;
-            number
+            u32::from(refusal)
         }
     }
 }

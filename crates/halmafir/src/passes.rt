@@ -5,28 +5,30 @@
 ghost use Rattle.std.specs.Prelude.{◌≡◌, List, not, ℕ, eqb};
 ghost use Rattle.std.proofs.Math.Option.{none};
 ghost use Rattle.mesh.specs.Words.{zero_words};
+ghost use Rattle.repair.specs.Answer.{answer_of};
 ghost use Rattle.repair.specs.Step.{Pass, call_of, held, regions_of, number_of, values_of, over};
 ghost use Rattle.halmafir.specs.Arrays.{fields_of, sizes_of, settings_of};
 ghost use Rattle.halmafir.specs.Called.{Returned, called};
 
 use crate::arrays::{fields_of, settings_of};
-use repair::answer::Answer;
+use mesh::refusal::Refusal;
+use repair::answer::Made;
 use repair::flip::flip;
 use repair::improve::improve;
 use repair::smooth::smooth;
 
 // Puts the result's four places and gives the number.
-fn put_answer(to: &mut [usize; 4], given: Answer) -> u32
-    ensures { ◌≡◌ {A = ℕ × List ℕ} (result, to.new) (number_of given, over (values_of given) (zero_words 4)) }
+fn put_answer(to: &mut [usize; 4], given: Result<Made, Refusal>) -> u32
+    ensures { ◌≡◌ {A = ℕ × List ℕ} (result, to.new) (number_of (answer_of given), over (values_of (answer_of given)) (zero_words 4)) }
 {
     match given {
-        Answer::Done { count, sizes } => {
-            *to = [count, sizes.vertices, sizes.elements, sizes.triples];
+        Ok(m) => {
+            *to = [m.count, m.sizes.vertices, m.sizes.elements, m.sizes.triples];
             0
         }
-        Answer::Refused(number) => {
-            *to = [0, 0, 0, 0];
-            number
+        Err(refusal) => {
+            *to = [0; 4];
+            u32::from(refusal)
         }
     }
 }

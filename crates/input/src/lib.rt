@@ -15,6 +15,7 @@ pub fn read_full<R: Read>(from: &mut R, buffer: &mut [u8]) -> io::Result<usize>
     ensures end { IfOk result (λ n. n < length buffer.new → IsAtEnd (R.remaining from.new)) }
 {
     let mut done = 0;
+    // Kept by hand: each turn goes on by as many bytes as a read gave, so it is no index; `read_exact` fails at the end of a file.
     while done < buffer.len() {
         let n = from.read(&mut buffer[done..])?;
         if n == 0 {

@@ -3,6 +3,7 @@ pub mod Bools
 pub mod Numbers
 pub mod NumbersFrom
 pub mod Edge
+pub mod Every
 pub mod Parts
 pub mod Sort
 pub mod Unique
@@ -14,6 +15,7 @@ pub mod Areas
 pub mod Keeping
 pub mod Runs
 pub mod Halving
+pub mod Refusal
 pub mod Boundary
 pub mod Complex
 pub mod Link

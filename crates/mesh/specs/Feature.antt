@@ -7,12 +7,13 @@ use Rattle.geometry.specs.declared.bounds.Bounds.{Bounds}
 use Rattle.geometry.specs.Bounds.{stratum}
 use Rattle.mesh.specs.declared.element.Tet.{Tet}
 use Rattle.mesh.specs.declared.element.Triple.{Triple}
+use Rattle.mesh.specs.declared.strata.Strata.{Strata}
 use Rattle.mesh.specs.Complex.{mem, keep, sub}
 use Rattle.mesh.specs.Tests.{every, nodup}
 use Rattle.mesh.specs.Sets.{same_set}
 use Rattle.mesh.specs.Element.{triple, tets, vertices_of}
 use Rattle.mesh.specs.Link.{interior_ok, boundary_about, boundary_ok}
-use Rattle.mesh.specs.Words.{point_at, zero_words}
+use Rattle.mesh.specs.Words.{point_at, points_in, zero_words}
 use Rattle.mesh.specs.Manifold.{Tested}
 
 pub record Label : Type 0 where
@@ -108,6 +109,10 @@ link_ok stratum a b ts = interior_ok a b ts && (boundary_ok a b ts && feature_ok
 -- the stratum of a vertex
 abbrev pub stratum_of : List ℕ → List Point → Bounds → ℕ → ℕ
 stratum_of masks ps bounds v = stratum (slice_index masks v) (point_at ps v) bounds
+
+-- the strata of the vertices
+abbrev pub strata_in : Strata → ℕ → ℕ
+strata_in s = stratum_of s.masks.now (points_in s.parameters) s.bounds
 
 -- "16,384 elements", 88 words an element, and four different vertices in each element
 unfoldable pub link_fits : ℕ → List ℕ → Bool

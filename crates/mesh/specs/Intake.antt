@@ -9,8 +9,6 @@ use Rattle.geometry.specs.declared.bounds.Options.{Options}
 use Rattle.geometry.specs.declared.field.Field.{Field}
 use Rattle.geometry.specs.declared.field.Field.TheVariants.{Level, Plane, Ball}
 use Rattle.mesh.specs.declared.element.Tet.{Tet}
-use Rattle.mesh.specs.declared.boundary.Outcome.{Outcome}
-use Rattle.mesh.specs.declared.boundary.Outcome.TheVariants.{Surface, Refused}
 use Rattle.mesh.specs.declared.intake.Sizes.{Sizes}
 use Rattle.mesh.specs.declared.intake.Settings.{Settings}
 use Rattle.mesh.specs.declared.intake.Lengths.{Lengths}
@@ -20,6 +18,7 @@ use Rattle.mesh.specs.Tests.{every, nodup, under}
 use Rattle.mesh.specs.Words.{points_of}
 use Rattle.mesh.specs.Element.{tets, vertices_of}
 use Rattle.mesh.specs.Boundary.{boundary_number}
+use Rattle.mesh.specs.Surface.{Outcome, Surface, Refused}
 
 -- ---- 10
 

@@ -8,6 +8,7 @@ pub mod Measure
 pub mod Tests
 pub mod Sets
 pub mod Boundary
+pub mod Refusal
 pub mod Surface
 pub mod Link
 pub mod Feature

@@ -1,14 +1,24 @@
 -- What the functions of src/boundary.rt give: the answer, the words of the surface, and what becomes of the buffers. A refusal is 10 where
 -- a buffer is too short or there are too many elements, else the number of `boundary_number`. Definitions only.
-use Rattle.std.specs.Prelude.{ℕ, ◌*◌, Bool, cond, ◌&&◌, List, [], ◌++◌, map, length, drop, ◌==◌, nat_le}
+use Rattle.std.specs.Prelude.{ℕ, ◌*◌, Result, Ok, Err, Bool, cond, ◌&&◌, List, [], ◌++◌, map, length, drop, ◌==◌, nat_le}
 use Rattle.mesh.specs.declared.element.Tet.{Tet}
-use Rattle.mesh.specs.declared.boundary.Outcome.{Outcome}
-use Rattle.mesh.specs.declared.boundary.Outcome.TheVariants.{Surface, Refused}
+use Rattle.mesh.specs.declared.refusal.Refusal.{Refusal}
+use Rattle.mesh.specs.Refusal.{table_number}
 use Rattle.mesh.specs.Words.{zero_words, flat}
 use Rattle.mesh.specs.Element.{tets, corners_of}
 use Rattle.mesh.specs.Boundary.{boundary_number, boundary_of}
 
 -- ---- the answer
+
+-- how many surface triples, or the number of the refusal
+pub data Outcome : Type 0 where
+  Surface : ℕ → Outcome
+  Refused : ℕ → Outcome
+
+-- the outcome that a result tells
+abbrev pub outcome_of : Result ℕ Refusal → Outcome
+outcome_of (Ok count) = Surface count
+outcome_of (Err e) = Refused (table_number e)
 
 -- a number above 0 refuses; else so many triples are the surface
 unfoldable pub answer : ℕ → ℕ → Outcome

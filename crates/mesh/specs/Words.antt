@@ -4,6 +4,7 @@ use Rattle.std.specs.Prelude.{ℕ, zero, suc, ◌+◌, ◌*◌, Bool, cond, ◌&
 use Rattle.std.proofs.Math.Seq.{paste}
 use Rattle.geometry.specs.declared.point.Point.{Point}
 use Rattle.geometry.specs.Float.{zero64}
+use Rattle.mesh.specs.declared.vertex.Points.{Points}
 
 -- the word at i, 0 past the end
 abbrev pub word_at : List ℕ → ℕ → ℕ
@@ -45,6 +46,10 @@ point_in s v = record { x = float_at s (3 * v); y = float_at s (3 * v + 1); z = 
 unfoldable pub points_of : ℕ → List Float → List Point
 points_of zero s = []
 points_of (suc n) s = record { x = float_at s 0; y = float_at s 1; z = float_at s 2 } ∷ points_of n (drop 3 s)
+
+-- the points of the vertices
+abbrev pub points_in : Points → List Point
+points_in p = points_of p.count p.floats.now
 
 -- ---- numbers
 

@@ -10,6 +10,7 @@ pub mod List
 pub mod Marks
 pub mod Moves
 pub mod Rows
+pub mod RowWidths
 pub mod Shared
 pub mod Short
 pub mod Star

@@ -6,31 +6,22 @@ ghost use Rattle.mesh.specs.inside.Star.{written};
 ghost use Rattle.mesh.specs.inside.About.{members, slots_of, about_room, about_list, about_in, slot_at, words_of, space_for, elements_in, live, live_room, live_list, live_in};
 
 use crate::element::Tet;
-use crate::rows::put_four;
+use crate::rows::put_row;
 use crate::star::{GONE, Index, chain_length, is_laid, make_distinct, put_slots, word_in};
-use crate::words::{wide, word};
+use crate::words::word;
 
 // Whether p lies outside the places from a up to m.
 fn is_clear(a: usize, m: usize, p: usize) -> bool
     ensures { result ≡ (nat_lt p a || nat_le m p) }
 {
-    if p < a {
-        return true;
-    }
-    m <= p
+    p < a || m <= p
 }
 
 // The place p + step, and m where that is no less.
 fn later(m: usize, p: usize, step: usize) -> usize
     ensures { (result ≡ p + step) ⊎ ((m ≤ result) × (m ≤ p + step)) }
 {
-    if m <= p {
-        return m;
-    }
-    if m - p <= step {
-        return m;
-    }
-    p + step
+    p.saturating_add(step).min(m)
 }
 
 // Whether the area has room for twice the entries of the members' chains, and no member stands in it.
@@ -45,8 +36,7 @@ fn has_about(s: &[u32], x: Index, from: usize, count: usize, step: usize) -> boo
     let most = (m - a) / 2;
     let mut n = 0;
     let mut p = from;
-    let mut left = count;
-    while 0 < left {
+    for _ in 0..count {
         if !is_clear(a, m, p) {
             return false;
         }
@@ -56,7 +46,6 @@ fn has_about(s: &[u32], x: Index, from: usize, count: usize, step: usize) -> boo
             return false;
         }
         p = later(m, p, step);
-        left -= 1;
     }
     true
 }
@@ -71,13 +60,11 @@ fn put_about(s: &mut [u32], x: Index, from: usize, count: usize, step: usize) ->
     let a = x.area;
     let mut n = 0;
     let mut p = from;
-    let mut left = count;
-    while 0 < left {
+    for _ in 0..count {
         let v = word(s, p);
         let k = put_slots(s, x, v, a + n);
         n += k;
         p = later(m, p, step);
-        left -= 1;
     }
     n
 }
@@ -101,13 +88,11 @@ fn has_space(x: Index, m: usize, n: usize, w: usize) -> bool
     requires { 0 < w }
     ensures { result ≡ space_for x m n w }
 {
-    if !is_laid(x, m) {
-        return false;
-    }
-    n <= (m - x.area) / w
+    is_laid(x, m) && n <= (m - x.area) / w
 }
 
 // The element of the slot e, gone where there is no such slot.
+#[tactic(auto, unfolding(crate::specs::inside::About::slot_at))]
 fn slot_at(s: &[u32], x: Index, e: u32) -> Tet
     requires { x.room ≤ 131072 }
     ensures { result ≡ slot_at x s.now e }
@@ -139,12 +124,9 @@ pub fn elements_at(s: &mut [u32], x: Index, n: usize)
         return;
     }
     let a = x.area;
-    let mut i = 0;
-    while i < n {
-        let e = word(s, a + i);
-        let t = slot_at(s, x, e);
-        put_four(s, a + n + 4 * i, t.a, t.b, t.c, t.d);
-        i += 1;
+    for i in 0..n {
+        let t = slot_at(s, x, word(s, a + i));
+        put_row(s, a + n + 4 * i, &[t.a, t.b, t.c, t.d]);
     }
 }
 
@@ -158,18 +140,16 @@ fn put_live(s: &mut [u32], x: Index, e: u32, k: usize) -> usize
     if t.a == GONE {
         return 0;
     }
-    put_four(s, k, t.a, t.b, t.c, t.d);
+    put_row(s, k, &[t.a, t.b, t.c, t.d]);
     1
 }
 
 // Whether there are n slots, and room for their elements in the area.
+#[tactic(auto, unfolding(crate::specs::inside::About::live_room))]
 fn has_live(x: Index, m: usize, n: usize) -> bool
     ensures { result ≡ live_room x m n }
 {
-    if wide(x.room) < n {
-        return false;
-    }
-    has_space(x, m, n, 4)
+    n <= x.room as usize && has_space(x, m, n, 4)
 }
 
 // Copies the elements of the first n slots that are not gone to the area's front, four words each, in number order, and gives how
@@ -181,13 +161,9 @@ pub fn live_elements(s: &mut [u32], x: Index, n: usize) -> usize
         return 0;
     }
     let a = x.area;
-    let m = n as u32;
     let mut k = 0;
-    let mut e = 0;
-    while e < m {
-        let j = put_live(s, x, e, a + 4 * k);
-        k += j;
-        e += 1;
+    for e in 0..n as u32 {
+        k += put_live(s, x, e, a + 4 * k);
     }
     k
 }

@@ -5,144 +5,135 @@
 // words over the face rows that are read already.
 ghost use Rattle.std.specs.Prelude.{◌≡◌, ◌+◌, ◌*◌, ◌≤◌, length, drop};
 ghost use Rattle.mesh.specs.inside.Rows.{rows};
-ghost use Rattle.mesh.specs.Surface.{call_fits, Call, boundary_call};
-ghost use Rattle.mesh.specs.inside.Surface.{area_fits, Filled, boundary_in, kind_at, FaceArea, Gathered};
+ghost use Rattle.mesh.specs.Surface.{outcome_of, call_fits, Call, boundary_call};
+ghost use Rattle.mesh.specs.inside.Surface.{area_fits, Filled, boundary_in, kind_at, run_number, FaceArea, Gathered};
 
 use crate::element::face_parity;
 use crate::faces::{face_at, sorted_faces};
-use crate::rows::{eq_rows, put_triple, sort_rows};
+use crate::refusal::Refusal;
+use crate::rows::{eq_rows, put_row, sort_rows};
 use crate::words::{clear, copy_over};
 
-// How many surface triples, or the number of the refusal.
-#[derive(Clone, Copy)]
-pub enum Outcome {
-    Surface(usize),
-    Refused(u32),
-}
-
 // Whether n is at most 65,536 and an area for n elements fits into m words.
+#[tactic(auto, unfolding(crate::specs::inside::Surface::area_fits))]
 fn area_fits(n: usize, m: usize) -> bool
     ensures { result ≡ area_fits n m }
 {
-    if 65536 < n {
-        return false;
-    }
-    36 * n <= m
+    n <= 65536 && 36 * n <= m
 }
 
 // Whether n is at most 16,384 and n elements, 4 n triples and an area for n elements fit into as many words.
+#[tactic(auto, unfolding(crate::specs::Surface::call_fits))]
 fn call_fits(n: usize, elements: usize, surface: usize, work: usize) -> bool
     ensures { result ≡ call_fits n elements surface work }
 {
-    if 16384 < n {
-        return false;
-    }
-    if elements < 4 * n {
-        return false;
-    }
-    if surface < 12 * n {
-        return false;
-    }
-    36 * n <= work
+    n <= 16384 && 4 * n <= elements && 12 * n <= surface && 36 * n <= work
 }
 
-// The run of equal keys that begins at p, where `left` rows are left: 0 a single face, 1 two of opposite parity, 17 two of equal
-// parity, 16 three or more.
-fn run_kind(area: &[u32], p: usize, left: usize) -> u32
+// A run of equal keys: a single face, two of opposite parity, two of equal parity, three or more.
+#[derive(Clone, Copy, PartialEq, Eq, Debug)]
+enum Run {
+    Single,
+    Opposed,
+    Level,
+    Crowded,
+}
+
+// The run that begins at p, where `left` rows are left.
+fn run_kind(area: &[u32], p: usize, left: usize) -> Run
     requires { p + 4 * left ≤ length area.now }
-    ensures { result ≡ kind_at area.now (rows 4 left (drop p area.now)) }
+    ensures { run_number result ≡ kind_at area.now (rows 4 left (drop p area.now)) }
 {
-    if left < 2 {
-        return 0;
+    if left < 2 || !eq_rows(area, p, area, p + 4, 3) {
+        return Run::Single;
     }
-    if !eq_rows(area, p, area, p + 4, 3) {
-        return 0;
-    }
-    if 2 < left {
-        if eq_rows(area, p, area, p + 8, 3) {
-            return 16;
-        }
+    if 2 < left && eq_rows(area, p, area, p + 8, 3) {
+        return Run::Crowded;
     }
     let f = face_at(area, area[p + 3]);
     let g = face_at(area, area[p + 7]);
     if face_parity(f) == face_parity(g) {
-        return 17;
+        Run::Level
+    } else {
+        Run::Opposed
     }
-    1
 }
 
-// Gathers the single faces to the front of the rows, and gives how many, or the number of the first bad run.
-fn gather(area: &mut [u32], n: usize) -> Outcome
+// Gathers the single faces to the front of the rows, and gives how many, or the refusal of the first bad run.
+fn gather(area: &mut [u32], n: usize) -> Result<usize, Refusal>
     requires { FaceArea n area.old }
-    ensures { Gathered n area.old area.new result }
+    ensures { Gathered n area.old area.new (outcome_of result) }
 {
+    // Kept by hand: a step takes a run of one row or two, which no iterator of the library does.
     let mut p = 4 * n;
     let mut left = p;
     let mut t = p;
     let mut count: usize = 0;
     while 0 < left {
-        let kind = run_kind(area, p, left);
-        if kind == 0 {
-            let f = face_at(area, area[p + 3]);
-            put_triple(area, t, f);
-            t += 3;
-            count += 1;
-            p += 4;
-            left -= 1;
-        } else {
-            if kind != 1 {
-                return Outcome::Refused(kind);
+        match run_kind(area, p, left) {
+            Run::Single => {
+                let f = face_at(area, area[p + 3]);
+                put_row(area, t, &[f.a, f.b, f.c]);
+                t += 3;
+                count += 1;
+                p += 4;
+                left -= 1;
             }
-            p += 8;
-            left -= 2;
+            Run::Opposed => {
+                p += 8;
+                left -= 2;
+            }
+            Run::Level => return Err(Refusal::Parity),
+            Run::Crowded => return Err(Refusal::Crowded),
         }
     }
-    Outcome::Surface(count)
+    Ok(count)
 }
 
 // The boundary of the n elements at the front of the area. The sorted triples stand behind the elements, and behind them all is 0.
-// 10 where the area is too small or n above 65,536, else 16 or 17 by the first bad key; after a number the whole area is 0.
-pub fn boundary_in(area: &mut [u32], n: usize) -> Outcome
-    ensures { ◌≡◌ {A = Filled} (record { answer = result; area = area.new }) (boundary_in n area.old) }
+// Refused where the area is too small or n above 65,536, else by the first bad key; then the whole area is 0.
+pub fn boundary_in(area: &mut [u32], n: usize) -> Result<usize, Refusal>
+    ensures { ◌≡◌ {A = Filled} (record { answer = outcome_of result; area = area.new }) (boundary_in n area.old) }
 {
     if !area_fits(n, area.len()) {
         clear(area);
-        return Outcome::Refused(10);
+        return Err(Refusal::Room);
     }
     let m = 4 * n;
     sorted_faces(area, n);
     match gather(area, n) {
-        Outcome::Surface(c) => {
+        Ok(c) => {
             sort_rows(&mut area[m..], c, 3);
             let e = m + 3 * c;
             clear(&mut area[e..]);
-            Outcome::Surface(c)
+            Ok(c)
         }
-        Outcome::Refused(k) => {
+        Err(e) => {
             clear(area);
-            Outcome::Refused(k)
+            Err(e)
         }
     }
 }
 
-// The boundary of n elements. Its sorted triples are written to the front of `surface`; on a refusal it stays as it was. 10 where
-// n is above 16,384 or a slice is too short, else 16 or 17 by the first bad key. The work is all zeros afterwards.
-pub fn boundary(elements: &[u32], n: usize, surface: &mut [u32], work: &mut [u32]) -> Outcome
-    ensures { ◌≡◌ {A = Call} (record { answer = result; surface = surface.new; work = work.new })
+// The boundary of n elements. Its sorted triples are written to the front of `surface`; on a refusal it stays as it was. Refused where
+// n is above 16,384 or a slice is too short, else by the first bad key. The work is all zeros afterwards.
+pub fn boundary(
+    elements: &[u32],
+    n: usize,
+    surface: &mut [u32],
+    work: &mut [u32],
+) -> Result<usize, Refusal>
+    ensures { ◌≡◌ {A = Call} (record { answer = outcome_of result; surface = surface.new; work = work.new })
         (boundary_call n elements.now surface.old work.old) }
 {
     if !call_fits(n, elements.len(), surface.len(), work.len()) {
         clear(work);
-        return Outcome::Refused(10);
+        return Err(Refusal::Room);
     }
     let m = 4 * n;
     copy_over(work, elements, m);
-    match boundary_in(work, n) {
-        Outcome::Surface(c) => {
-            copy_over(surface, &work[m..], 3 * c);
-            clear(work);
-            Outcome::Surface(c)
-        }
-        Outcome::Refused(k) => Outcome::Refused(k),
-    }
+    let c = boundary_in(work, n)?;
+    copy_over(surface, &work[m..], 3 * c);
+    clear(work);
+    Ok(c)
 }

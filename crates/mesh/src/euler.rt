@@ -8,14 +8,15 @@ ghost use Rattle.mesh.specs.inside.Rows.{rows};
 ghost use Rattle.mesh.specs.Element.{tets};
 ghost use Rattle.mesh.specs.inside.Manifold.{filled, KeptBelow};
 ghost use Rattle.mesh.specs.inside.Euler.{ends_at, different, counts_of, count_fits, Counted, counted_in, edge_row_at, triangle_row_at};
+ghost use Rattle.mesh.specs.inside.RowWidths.{edge_row-wide, triangle_row-wide};
 
 use crate::element::{Pair, Tet, face_key, tet_face};
-use crate::rows::{put_edge, put_triple, sort_from, unique_rows};
+use crate::rows::{Rows, fill_rows, sort_from, unique_rows};
 use crate::vertex::tet_at;
 use crate::words::{clear_from, copy_words};
 
 // How many simplices of each size.
-#[derive(Clone, Copy)]
+#[derive(Clone, Copy, PartialEq, Eq, Debug)]
 pub struct Counts {
     pub vertices: usize,
     pub edges: usize,
@@ -24,35 +25,56 @@ pub struct Counts {
 }
 
 // Whether n is at most 65,536 and an area for n elements fits into m words.
+#[tactic(auto, unfolding(crate::specs::inside::Euler::count_fits))]
 fn count_fits(n: usize, m: usize) -> bool
     ensures { result ≡ count_fits n m }
 {
-    if 65536 < n {
-        return false;
-    }
-    28 * n <= m
+    n <= 65536 && 28 * n <= m
 }
 
 // The ends of the edge k of an element, from 0: a b, a c, a d, b c, b d, c d. From 5 on the last.
 pub(crate) fn tet_ends(t: Tet, k: usize) -> Pair
     ensures { result ≡ ends_at t k }
 {
-    if k == 0 {
-        return Pair { a: t.a, b: t.b };
+    let Tet { a, b, c, d } = t;
+    match k {
+        0 => Pair { a, b },
+        1 => Pair { a, b: c },
+        2 => Pair { a, b: d },
+        3 => Pair { a: b, b: c },
+        4 => Pair { a: b, b: d },
+        _ => Pair { a: c, b: d },
     }
-    if k == 1 {
-        return Pair { a: t.a, b: t.c };
+}
+
+// The edges of elements as rows: 6 e + k for the edge k of the element e.
+struct EdgeRows;
+
+impl Rows<2> for EdgeRows {
+    ghost words = { edge_row_at };
+
+    #[tactic(auto, unfolding(crate::specs::inside::Euler::edge_row_at))]
+    fn row(elements: &[u32], j: usize) -> [u32; 2] {
+        let e = tet_ends(tet_at(elements, j / 6), j % 6);
+        [e.a.min(e.b), e.a.max(e.b)]
     }
-    if k == 2 {
-        return Pair { a: t.a, b: t.d };
+
+    ghost wide = { edge_row-wide };
+}
+
+// The triangles of elements as rows: 4 e + k for the face k of the element e.
+struct TriangleRows;
+
+impl Rows<3> for TriangleRows {
+    ghost words = { triangle_row_at };
+
+    #[tactic(auto, unfolding(crate::specs::inside::Euler::triangle_row_at))]
+    fn row(elements: &[u32], j: usize) -> [u32; 3] {
+        let f = face_key(tet_face(tet_at(elements, j / 4), (j % 4) as u32));
+        [f.a, f.b, f.c]
     }
-    if k == 3 {
-        return Pair { a: t.b, b: t.c };
-    }
-    if k == 4 {
-        return Pair { a: t.b, b: t.d };
-    }
-    Pair { a: t.c, b: t.d }
+
+    ghost wide = { triangle_row-wide };
 }
 
 // Writes the rows of the edges of n elements behind them.
@@ -60,14 +82,7 @@ pub(crate) fn list_edges(area: &mut [u32], n: usize)
     requires { (n ≤ 65536) × (28 * n ≤ length area.old) }
     ensures { area.new ≡ filled (edge_row_at area.old) 2 (4 * n) (6 * n) area.old }
 {
-    let m = 6 * n;
-    let mut j = 0;
-    while j < m {
-        let t = tet_at(area, j / 6);
-        let e = tet_ends(t, j % 6);
-        put_edge(area, 4 * n + 2 * j, e.a, e.b);
-        j += 1;
-    }
+    fill_rows::<2, EdgeRows>(area, 4 * n, 6 * n);
 }
 
 // Writes the rows of the triangles of n elements behind them.
@@ -75,15 +90,7 @@ pub(crate) fn list_triangles(area: &mut [u32], n: usize)
     requires { (n ≤ 65536) × (28 * n ≤ length area.old) }
     ensures { area.new ≡ filled (triangle_row_at area.old) 3 (4 * n) (4 * n) area.old }
 {
-    let m = 4 * n;
-    let mut j = 0;
-    while j < m {
-        let t = tet_at(area, j / 4);
-        let k = (j % 4) as u32;
-        let f = face_key(tet_face(t, k));
-        put_triple(area, m + 3 * j, f);
-        j += 1;
-    }
+    fill_rows::<3, TriangleRows>(area, 4 * n, 4 * n);
 }
 
 // How many different rows there are among the n rows from a on.

@@ -5,60 +5,61 @@
 // scratch, which are left 0.
 ghost use Rattle.std.specs.Prelude.{◌≡◌, ◌+◌, ◌*◌, ◌≤◌, length};
 ghost use Rattle.std.proofs.Math.Seq.{paste};
-ghost use Rattle.mesh.specs.Words.{points_of};
+ghost use Rattle.mesh.specs.Words.{points_of, points_in};
 ghost use Rattle.mesh.specs.inside.Manifold.{filled};
-ghost use Rattle.mesh.specs.inside.Group.{group_row, group_fits, grouped_area, group_row_at};
+ghost use Rattle.mesh.specs.inside.Group.{group_row, grouped_area, group_row_at};
 
-use crate::rows::sort_rows;
-use crate::vertex::point_at;
+use crate::rows::{put_row, sort_rows};
+use crate::vertex::{Points, fits, point_at};
 use crate::words::{high_half, low_half};
 use geometry::bounds::{Options, Ranks, rank};
-
-// Whether n is at most 65,536 and an area for n vertices fits into m words.
-fn group_fits(n: usize, m: usize) -> bool
-    ensures { result ≡ group_fits n m }
-{
-    if 65536 < n {
-        return false;
-    }
-    14 * n <= m
-}
 
 // Writes the row of the vertex v at p.
 fn put_group(area: &mut [u32], p: usize, r: Ranks, v: u32)
     requires { p + 7 ≤ length area.old }
     ensures { area.new ≡ paste area.old p (group_row r v) 7 }
 {
-    area[p] = high_half(r.x);
-    area[p + 1] = low_half(r.x);
-    area[p + 2] = high_half(r.y);
-    area[p + 3] = low_half(r.y);
-    area[p + 4] = high_half(r.z);
-    area[p + 5] = low_half(r.z);
-    area[p + 6] = v;
+    let (x, y, z) = (r.x, r.y, r.z);
+    let row = [
+        high_half(x),
+        low_half(x),
+        high_half(y),
+        low_half(y),
+        high_half(z),
+        low_half(z),
+        v,
+    ];
+    put_row(area, p, &row);
 }
 
-// Writes the rows of n vertices to the front of the area.
-fn list_groups(parameters: &[f64], n: usize, o: Options, area: &mut [u32])
-    requires { (n ≤ 65536) × (14 * n ≤ length area.old) }
-    ensures { area.new ≡ filled (group_row_at o parameters.now) 7 0 n area.old }
+// Writes the rows of the vertices to the front of the area.
+fn list_groups(parameters: Points, o: Options, area: &mut [u32])
+    requires { (parameters.count ≤ 65536) × (14 * parameters.count ≤ length area.old) }
+    ensures { area.new ≡ filled (group_row_at o parameters.entry.floats.now) 7 0 parameters.entry.count area.old }
 {
-    let mut v = 0;
-    while v < n {
-        let p = point_at(parameters, v);
+    for v in 0..parameters.count {
+        let p = point_at(parameters.floats, v);
         let r = rank(p, o);
         put_group(area, 7 * v, r, v as u32);
-        v += 1;
     }
 }
 
-// The sorted rows of n vertices, at the front of the area. Unchanged where it is too small.
+impl<'a> Points<'a> {
+    // The sorted rows of the vertices with these parameters, at the front of the area. Unchanged where it is too small.
+    pub fn group_in(self, o: Options, area: &mut [u32])
+        ensures { area.new ≡ grouped_area o (points_in self.entry) area.old }
+    {
+        if !fits(self.count, 14, area.len()) {
+            return;
+        }
+        list_groups(self, o, area);
+        sort_rows(area, self.count, 7);
+    }
+}
+
+// The sorted rows of n vertices, as `Points::group_in` says.
 pub fn group_in(parameters: &[f64], n: usize, o: Options, area: &mut [u32])
     ensures { area.new ≡ grouped_area o (points_of n parameters.now) area.old }
 {
-    if !group_fits(n, area.len()) {
-        return;
-    }
-    list_groups(parameters, n, o, area);
-    sort_rows(area, n, 7);
+    Points::new(parameters, n).group_in(o, area);
 }

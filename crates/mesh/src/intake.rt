@@ -6,15 +6,16 @@ ghost use Rattle.mesh.specs.Element.{tets, corners_of, vertices_of};
 ghost use Rattle.mesh.specs.Intake.{too_many, too_short, sized, sized_point, sized_field, bounds_in, cells_in, options_in, fields_in, in_box, well_numbered, upright, given_of, intake};
 ghost use Rattle.mesh.specs.inside.Intake.{point_below, vertex_row, none_twice, settings_number, mesh_number, intake_numbers};
 ghost use Rattle.mesh.specs.inside.Rows.{rows, le_row};
-ghost use Rattle.mesh.specs.Words.{flat, zero_words, zero_floats, points_of};
+ghost use Rattle.mesh.specs.Refusal.{number_in};
+ghost use Rattle.mesh.specs.Words.{flat, zero_words, zero_floats, points_of, points_in};
 ghost use Rattle.mesh.specs.Sort.{insert, sort};
 ghost use Rattle.mesh.specs.Tests.{every, under};
 
-use crate::boundary::{Outcome, boundary_in};
+use crate::boundary::boundary_in;
 use crate::element::{Pair, Tet, Triple, edge, four_different};
-use crate::measure::is_above;
-use crate::rows::{eq_rows, sort_rows};
-use crate::vertex::{point_at, tet_at};
+use crate::refusal::Refusal;
+use crate::rows::{eq_rows, put_row, sort_rows};
+use crate::vertex::{Points, point_at, tet_at};
 use crate::words::{clear, clear_floats, copy_over};
 use geometry::bounds::{Bounds, Options};
 use geometry::field::Field;
@@ -52,13 +53,7 @@ pub struct Lengths {
 fn too_many(s: Sizes) -> bool
     ensures { result ≡ too_many s }
 {
-    if 4096 < s.vertices {
-        return true;
-    }
-    if 16384 < s.elements {
-        return true;
-    }
-    4 * s.elements < s.triples
+    4096 < s.vertices || 16384 < s.elements || 4 * s.elements < s.triples
 }
 
 // Whether a slice is too short for counts within their limits.
@@ -66,58 +61,34 @@ fn too_short(s: Sizes, l: Lengths) -> bool
     requires { (s.vertices ≤ 4096) × (s.elements ≤ 16384) }
     ensures { result ≡ too_short s l }
 {
-    if l.parameters < 3 * s.vertices {
-        return true;
-    }
-    if l.points < 3 * s.vertices {
-        return true;
-    }
-    if l.masks < s.vertices {
-        return true;
-    }
-    if l.surface < 3 * (4 * s.elements) {
-        return true;
-    }
-    if l.elements < 4 * (2 * s.elements) {
-        return true;
-    }
-    if l.words < 256 * s.elements + 32 * s.vertices + 1024 {
-        return true;
-    }
-    l.floats < 16 * s.vertices
+    l.parameters < 3 * s.vertices
+        || l.points < 3 * s.vertices
+        || l.masks < s.vertices
+        || l.surface < 3 * (4 * s.elements)
+        || l.elements < 4 * (2 * s.elements)
+        || l.words < 256 * s.elements + 32 * s.vertices + 1024
+        || l.floats < 16 * s.vertices
 }
 
 // Whether the counts are within their limits and the slices long enough: not number 10.
 fn room(s: Sizes, l: Lengths) -> bool
     ensures { result ≡ not (too_many s || too_short s l) }
 {
-    if too_many(s) {
-        return false;
-    }
-    !too_short(s, l)
+    !(too_many(s) || too_short(s, l))
 }
 
 // Whether x is finite and not over 2^20 in size.
 fn sized(x: f64) -> bool
     ensures { result ≡ sized x }
 {
-    if -1048576.0 <= x {
-        return x <= 1048576.0;
-    }
-    false
+    -1048576.0 <= x && x <= 1048576.0
 }
 
 // The same of each coordinate.
 fn sized_point(p: Point) -> bool
     ensures { result ≡ sized_point p }
 {
-    if !sized(p.x) {
-        return false;
-    }
-    if !sized(p.y) {
-        return false;
-    }
-    sized(p.z)
+    sized(p.x) && sized(p.y) && sized(p.z)
 }
 
 // The same of each number that the field's kind uses.
@@ -126,18 +97,8 @@ fn sized_field(f: Field) -> bool
 {
     match f {
         Field::Level(c) => sized(c),
-        Field::Plane(n, d) => {
-            if !sized_point(n) {
-                return false;
-            }
-            sized(d)
-        }
-        Field::Ball(c, r) => {
-            if !sized_point(c) {
-                return false;
-            }
-            sized(r)
-        }
+        Field::Plane(n, d) => sized_point(n) && sized(d),
+        Field::Ball(c, r) => sized_point(c) && sized(r),
     }
 }
 
@@ -145,189 +106,101 @@ fn sized_field(f: Field) -> bool
 fn point_below(p: Point, q: Point) -> bool
     ensures { result ≡ point_below p q }
 {
-    if p.x < q.x {
-        if p.y < q.y {
-            return p.z < q.z;
-        }
-    }
-    false
+    p.x < q.x && p.y < q.y && p.z < q.z
 }
 
 // Whether every bound is sized and lo below hi.
 fn bounds_in(b: Bounds) -> bool
     ensures { result ≡ bounds_in b }
 {
-    if !sized_point(b.lo) {
-        return false;
-    }
-    if !sized_point(b.hi) {
-        return false;
-    }
-    point_below(b.lo, b.hi)
+    sized_point(b.lo) && sized_point(b.hi) && point_below(b.lo, b.hi)
 }
 
 // Whether a number of cells is within 1 to 4,096.
 fn cells_in(n: u32) -> bool
     ensures { result ≡ cells_in n }
 {
-    if n < 1 {
-        return false;
-    }
-    n <= 4096
+    1 <= n && n <= 4096
 }
 
 // Whether bounds, cells, passes and periodic bits are allowed.
 fn options_in(o: Options) -> bool
     ensures { result ≡ options_in o }
 {
-    if !bounds_in(o.bounds) {
-        return false;
-    }
-    if !cells_in(o.cells.x) {
-        return false;
-    }
-    if !cells_in(o.cells.y) {
-        return false;
-    }
-    if !cells_in(o.cells.z) {
-        return false;
-    }
-    if 16 < o.passes {
-        return false;
-    }
-    o.periodic <= 7
+    bounds_in(o.bounds)
+        && cells_in(o.cells.x)
+        && cells_in(o.cells.y)
+        && cells_in(o.cells.z)
+        && o.passes <= 16
+        && o.periodic <= 7
 }
 
 // Whether there are at most 8 fields, and the numbers of those that count are sized.
 fn fields_in(count: u32, fields: [Field; 8]) -> bool
     ensures { result ≡ fields_in count fields }
 {
-    if 8 < count {
-        return false;
-    }
-    let n = count as usize;
-    let mut i = 0;
-    while i < n {
-        let f = fields[i];
-        if !sized_field(f) {
-            return false;
-        }
-        i += 1;
-    }
-    true
+    count <= 8 && fields[..count as usize].iter().all(|f| sized_field(*f))
 }
 
 // Whether the options and the fields are allowed: not number 11.
 fn settings_in(o: Options, count: u32, fields: [Field; 8]) -> bool
     ensures { result ≡ (options_in o && fields_in count fields) }
 {
-    if !options_in(o) {
-        return false;
-    }
-    fields_in(count, fields)
+    options_in(o) && fields_in(count, fields)
 }
 
 // Whether p is within lo to hi in each direction.
 pub fn in_box(b: Bounds, p: Point) -> bool
     ensures { result ≡ in_box b p }
 {
-    if !(b.lo.x <= p.x) {
-        return false;
-    }
-    if !(p.x <= b.hi.x) {
-        return false;
-    }
-    if !(b.lo.y <= p.y) {
-        return false;
-    }
-    if !(p.y <= b.hi.y) {
-        return false;
-    }
-    if !(b.lo.z <= p.z) {
-        return false;
-    }
-    p.z <= b.hi.z
+    b.lo.x <= p.x
+        && p.x <= b.hi.x
+        && b.lo.y <= p.y
+        && p.y <= b.hi.y
+        && b.lo.z <= p.z
+        && p.z <= b.hi.z
 }
 
-// Whether the first n points are sized.
-fn points_in(points: &[f64], n: usize) -> bool
-    ensures { result ≡ every sized_point (points_of n points.now) }
+// Whether the points are sized.
+fn all_sized(points: Points) -> bool
+    ensures { result ≡ every sized_point (points_in points.entry) }
 {
-    let mut i = 0;
-    while i < n {
-        let p = point_at(points, i);
-        if !sized_point(p) {
-            return false;
-        }
-        i += 1;
-    }
-    true
+    (0..points.count).all(|v| sized_point(point_at(points.floats, v)))
 }
 
-// Whether the first n parameters are in the box.
-fn parameters_in(b: Bounds, parameters: &[f64], n: usize) -> bool
-    ensures { result ≡ every (in_box b) (points_of n parameters.now) }
+// Whether the parameters are in the box.
+fn all_in_box(b: Bounds, parameters: Points) -> bool
+    ensures { result ≡ every (in_box b) (points_in parameters.entry) }
 {
-    let mut i = 0;
-    while i < n {
-        let p = point_at(parameters, i);
-        if !in_box(b, p) {
-            return false;
-        }
-        i += 1;
-    }
-    true
+    (0..parameters.count).all(|v| in_box(b, point_at(parameters.floats, v)))
 }
 
 // Whether the vertices' points and parameters are allowed: not number 12.
 fn vertices_in(b: Bounds, parameters: &[f64], points: &[f64], n: usize) -> bool
     ensures { result ≡ (every sized_point (points_of n points.now) && every (in_box b) (points_of n parameters.now)) }
 {
-    if !points_in(points, n) {
-        return false;
-    }
-    parameters_in(b, parameters, n)
+    all_sized(Points::new(points, n)) && all_in_box(b, Points::new(parameters, n))
 }
 
 // Whether every vertex number of an element is below n.
 fn under_all(t: Tet, n: usize) -> bool
     ensures { result ≡ under n (vertices_of t) }
 {
-    if n <= t.a as usize {
-        return false;
-    }
-    if n <= t.b as usize {
-        return false;
-    }
-    if n <= t.c as usize {
-        return false;
-    }
-    (t.d as usize) < n
+    [t.a, t.b, t.c, t.d].iter().all(|v| (*v as usize) < n)
 }
 
 // Whether an element has four different vertices below n.
 fn well_numbered(t: Tet, n: usize) -> bool
     ensures { result ≡ well_numbered n t }
 {
-    if !under_all(t, n) {
-        return false;
-    }
-    four_different(t)
+    under_all(t, n) && four_different(t)
 }
 
 // Whether each of the first n elements has four different vertices below `vertices`: not number 13.
 fn elements_in(elements: &[u32], n: usize, vertices: usize) -> bool
     ensures { result ≡ every (well_numbered vertices) (tets n elements.now) }
 {
-    let mut e = 0;
-    while e < n {
-        let t = tet_at(elements, e);
-        if !well_numbered(t, vertices) {
-            return false;
-        }
-        e += 1;
-    }
-    true
+    (0..n).all(|e| well_numbered(tet_at(elements, e), vertices))
 }
 
 // x put to its place among two.
@@ -398,28 +271,15 @@ fn rising(t: Tet) -> Tet
     rising_four(t.a, rising_three(t.b, edge(t.c, t.d)))
 }
 
-// Writes the four vertices of an element at p.
-fn put_tet(s: &mut [u32], p: usize, t: Tet)
-    requires { p + 4 ≤ length s.old }
-    ensures { s.new ≡ paste s.old p (vertices_of t) 4 }
-{
-    s[p] = t.a;
-    s[p + 1] = t.b;
-    s[p + 2] = t.c;
-    s[p + 3] = t.d;
-}
-
 // Writes the sorted vertices of n elements to the front of the work, a row of four words each.
 fn fill_rows(elements: &[u32], n: usize, work: &mut [u32])
     requires { 4 * n ≤ length work.old }
     ensures { work.new ≡ flat (map vertex_row (tets n elements.now)) ++ drop (4 * n) work.old }
 {
-    let mut e = 0;
-    while e < n {
+    for e in 0..n {
         let t = tet_at(elements, e);
         let row = rising(t);
-        put_tet(work, 4 * e, row);
-        e += 1;
+        put_row(work, 4 * e, &[row.a, row.b, row.c, row.d]);
     }
 }
 
@@ -428,14 +288,10 @@ fn none_twice(s: &[u32], n: usize) -> bool
     requires { 4 * n ≤ length s.now }
     ensures { result ≡ none_twice (rows 4 n s.now) }
 {
-    let mut p = 0;
-    let mut left = n;
-    while 1 < left {
-        if eq_rows(s, p, s, p + 4, 4) {
+    for i in 1..n {
+        if eq_rows(s, 4 * (i - 1), s, 4 * i, 4) {
             return false;
         }
-        p += 4;
-        left -= 1;
     }
     true
 }
@@ -459,62 +315,55 @@ fn all_different(elements: &[u32], n: usize, work: &mut [u32]) -> bool
 fn all_upright(points: &[f64], nv: usize, elements: &[u32], n: usize) -> bool
     ensures { result ≡ every (upright (points_of nv points.now)) (tets n elements.now) }
 {
-    let mut e = 0;
-    while e < n {
-        let t = tet_at(elements, e);
-        if !is_above(points, nv, t) {
-            return false;
-        }
-        e += 1;
-    }
-    true
+    let points = Points::new(points, nv);
+    (0..n).all(|e| points.is_above(tet_at(elements, e)))
 }
 
-// 10 or 11 by the counts, the lengths, the options and the fields, and else 0.
-fn settings_number(s: Settings, l: Lengths, fields: [Field; 8]) -> u32
-    ensures { result ≡ settings_number s.sizes l s.options s.count fields }
+// Whether the counts, the lengths, the options and the fields are allowed.
+fn check_settings(s: Settings, l: Lengths, fields: [Field; 8]) -> Result<(), Refusal>
+    ensures { number_in result ≡ settings_number s.sizes l s.options s.count fields }
 {
     if !room(s.sizes, l) {
-        return 10;
+        return Err(Refusal::Room);
     }
     if !settings_in(s.options, s.count, fields) {
-        return 11;
+        return Err(Refusal::Settings);
     }
-    0
+    Ok(())
 }
 
-// 12 to 15 by the vertices and the elements, and else 0. The work is all zeros before and after.
-fn mesh_number(
+// Whether the vertices and the elements are allowed. The work is all zeros before and after.
+fn check_mesh(
     s: Sizes,
     b: Bounds,
     parameters: &[f64],
     points: &[f64],
     elements: &[u32],
     work: &mut [u32],
-) -> u32
+) -> Result<(), Refusal>
     requires elements_bound { (s.elements ≤ 16384) × (8 * s.elements ≤ length work.old) }
     requires work_value { work.old ≡ zero_words (length work.old) }
-    ensures value { result ≡ mesh_number s.vertices b (points_of s.vertices parameters.now) (points_of s.vertices points.now) (tets s.elements elements.now) }
+    ensures value { number_in result ≡ mesh_number s.vertices b (points_of s.vertices parameters.now) (points_of s.vertices points.now) (tets s.elements elements.now) }
     ensures work_after { work.new ≡ zero_words (length work.old) }
 {
     if !vertices_in(b, parameters, points, s.vertices) {
-        return 12;
+        return Err(Refusal::Vertex);
     }
     if !elements_in(elements, s.elements, s.vertices) {
-        return 13;
+        return Err(Refusal::Corner);
     }
     if !all_different(elements, s.elements, work) {
-        return 14;
+        return Err(Refusal::Twice);
     }
     if !all_upright(points, s.vertices, elements, s.elements) {
-        return 15;
+        return Err(Refusal::Inverted);
     }
-    0
+    Ok(())
 }
 
-// The first of the numbers 10 to 15 whose condition applies, and 0 where none does. `masks` and `surface` are the lengths of those slices;
-// the work is all zeros afterwards; of the floats only their length counts.
-fn intake_numbers(
+// Whether none of the numbers 10 to 15 applies, else the first of them. `masks` and `surface` are the lengths of those slices; the work is all
+// zeros afterwards; of the floats only their length counts.
+fn check_numbers(
     s: Settings,
     fields: [Field; 8],
     parameters: &[f64],
@@ -524,25 +373,22 @@ fn intake_numbers(
     surface: usize,
     work: &mut [u32],
     floats: &[f64],
-) -> u32
-    ensures value { result ≡ intake_numbers (given_of s fields parameters.now points.now masks elements.now surface work.old floats.now) }
+) -> Result<(), Refusal>
+    ensures value { number_in result ≡ intake_numbers (given_of s fields parameters.now points.now masks elements.now surface work.old floats.now) }
     ensures work_after { work.new ≡ zero_words (length work.old) }
 {
     clear(work);
     let l = Lengths {
         parameters: parameters.len(),
         points: points.len(),
-        masks: masks,
+        masks,
         elements: elements.len(),
-        surface: surface,
+        surface,
         words: work.len(),
         floats: floats.len(),
     };
-    let number = settings_number(s, l, fields);
-    if number != 0 {
-        return number;
-    }
-    mesh_number(
+    check_settings(s, l, fields)?;
+    check_mesh(
         s.sizes,
         s.options.bounds,
         parameters,
@@ -552,28 +398,24 @@ fn intake_numbers(
     )
 }
 
-// 16 or 17 by the first bad key of n elements, and else 0. The first 36 n words of the work are the area of the boundary; the work is
-// all zeros before and after.
-fn boundary_number(elements: &[u32], n: usize, work: &mut [u32]) -> u32
+// Whether no key of n elements is bad, else the refusal of the first bad one. The first 36 n words of the work are the area of the boundary; the
+// work is all zeros before and after.
+fn check_boundary(elements: &[u32], n: usize, work: &mut [u32]) -> Result<(), Refusal>
     requires n_bound { (n ≤ 16384) × (4 * n ≤ length elements.now) × (36 * n ≤ length work.old) }
     requires work_value { work.old ≡ zero_words (length work.old) }
-    ensures value { result ≡ boundary_number (tets n elements.now) }
+    ensures value { number_in result ≡ boundary_number (tets n elements.now) }
     ensures work_after { work.new ≡ zero_words (length work.old) }
 {
     let m = 4 * n;
     let e = 36 * n;
     copy_over(work, elements, m);
-    match boundary_in(&mut work[0..e], n) {
-        Outcome::Surface(_) => {
-            clear(&mut work[0..e]);
-            0
-        }
-        Outcome::Refused(k) => k,
-    }
+    boundary_in(&mut work[0..e], n)?;
+    clear(&mut work[0..e]);
+    Ok(())
 }
 
-// Intake: the first number of the table whose condition applies, 10 to 17, and 0 where none does. `masks` and `surface` are the lengths of
-// those slices. Both work slices may hold anything before, and are all zeros afterwards.
+// Intake: the first row of the table, 10 to 17, whose condition applies refuses. `masks` and `surface` are the lengths of those slices. Both work
+// slices may hold anything before, and are all zeros afterwards.
 pub fn intake(
     s: Settings,
     fields: [Field; 8],
@@ -584,17 +426,15 @@ pub fn intake(
     surface: usize,
     work: &mut [u32],
     floats: &mut [f64],
-) -> u32
-    ensures value { result ≡ intake (given_of s fields parameters.now points.now masks elements.now surface work.old floats.old) }
+) -> Result<(), Refusal>
+    ensures value { number_in result ≡ intake (given_of s fields parameters.now points.now masks elements.now surface work.old floats.old) }
     ensures work_after { work.new ≡ zero_words (length work.old) }
     ensures floats_after { floats.new ≡ zero_floats (length floats.old) }
 {
-    let number = intake_numbers(
+    let numbers = check_numbers(
         s, fields, parameters, points, masks, elements, surface, work, floats,
     );
     clear_floats(floats);
-    if number != 0 {
-        return number;
-    }
-    boundary_number(elements, s.sizes.elements, work)
+    numbers?;
+    check_boundary(elements, s.sizes.elements, work)
 }

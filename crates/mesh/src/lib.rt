@@ -15,6 +15,7 @@ pub mod list;
 pub mod manifold;
 mod marks;
 pub mod measure;
+pub mod refusal;
 pub mod rows;
 pub mod shared;
 pub mod short;

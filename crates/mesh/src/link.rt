@@ -18,7 +18,7 @@ ghost use Rattle.mesh.specs.Complex.{sub};
 ghost use Rattle.mesh.specs.Tests.{every, nodup};
 ghost use Rattle.mesh.specs.Element.{vertices_of, tets};
 ghost use Rattle.mesh.specs.Link.{boundary_about, boundary_ok};
-ghost use Rattle.mesh.specs.Feature.{bits_of, feature_ok, link_ok, stratum_of, link_fits, link_ok_in};
+ghost use Rattle.mesh.specs.Feature.{bits_of, feature_ok, link_ok, stratum_of, strata_in, link_fits, link_ok_in};
 ghost use Rattle.mesh.specs.Manifold.{Tested};
 ghost use Rattle.mesh.specs.inside.Manifold.{KeptBelow};
 
@@ -26,109 +26,71 @@ use crate::element::four_different;
 use crate::link::boundary::{boundary_ok_in, list_boundary};
 use crate::link::features::feature_ok_in;
 use crate::link::interior::interior_ok_in;
-use crate::strata::stratum_inside;
+use crate::strata::Strata;
 use crate::vertex::tet_at;
 use crate::words::clear_from;
 use geometry::bounds::Bounds;
 
 // The second and the third test, of two different vertices a and b where the bits of a are b's.
-fn surface_ok(
-    area: &mut [u32],
-    n: usize,
-    a: u32,
-    b: u32,
-    masks: &[u32],
-    parameters: &[f64],
-    nv: usize,
-    bounds: Bounds,
-) -> bool
+fn surface_ok(area: &mut [u32], n: usize, a: u32, b: u32, strata: Strata) -> bool
     requires n_bound { (n ≤ 16384) × (88 * n ≤ length area.old) × (every (λ t. nodup (vertices_of t)) (tets n area.old) ≡ true) × (a ≢ b) }
-    requires b_value { sub (bits_of (stratum_of masks.now (points_of nv parameters.now) bounds a)) (bits_of (stratum_of masks.now (points_of nv parameters.now) bounds b)) ≡ true }
-    ensures { (result ≡ (boundary_ok a b (tets n area.old) && feature_ok (stratum_of masks.now (points_of nv parameters.now) bounds) a b (boundary_about a b (tets n area.old))))
+    requires b_value { sub (bits_of (strata_in strata a)) (bits_of (strata_in strata b)) ≡ true }
+    ensures { (result ≡ (boundary_ok a b (tets n area.old) && feature_ok (strata_in strata.entry) a b (boundary_about a b (tets n area.old))))
         × KeptBelow (4 * n) area.old area.new }
 {
     let m = list_boundary(area, n, a, b);
-    if !boundary_ok_in(area, n, m) {
-        return false;
-    }
-    feature_ok_in(area, n, m, a, b, masks, parameters, nv, bounds)
+    boundary_ok_in(area, n, m) && feature_ok_in(area, n, m, a, b, strata)
 }
 
 // The three tests of `link_ok`. The interior comes last: its rows are the most.
-fn edge_ok(
-    area: &mut [u32],
-    n: usize,
-    a: u32,
-    b: u32,
-    masks: &[u32],
-    parameters: &[f64],
-    nv: usize,
-    bounds: Bounds,
-) -> bool
+fn edge_ok(area: &mut [u32], n: usize, a: u32, b: u32, strata: Strata) -> bool
     requires n_bound { (n ≤ 16384) × (88 * n ≤ length area.old) × (every (λ t. nodup (vertices_of t)) (tets n area.old) ≡ true) × (a ≢ b) }
-    requires b_value { sub (bits_of (stratum_of masks.now (points_of nv parameters.now) bounds a)) (bits_of (stratum_of masks.now (points_of nv parameters.now) bounds b)) ≡ true }
-    ensures { (result ≡ link_ok (stratum_of masks.now (points_of nv parameters.now) bounds) a b (tets n area.old)) × KeptBelow (4 * n) area.old area.new }
+    requires b_value { sub (bits_of (strata_in strata a)) (bits_of (strata_in strata b)) ≡ true }
+    ensures { (result ≡ link_ok (strata_in strata.entry) a b (tets n area.old)) × KeptBelow (4 * n) area.old area.new }
 {
-    if !surface_ok(area, n, a, b, masks, parameters, nv, bounds) {
-        return false;
-    }
-    interior_ok_in(area, n, a, b)
+    surface_ok(area, n, a, b, strata) && interior_ok_in(area, n, a, b)
 }
 
 // Whether the bits of a are b's, and the edge passes `link_ok`.
-fn edge_passes(
-    area: &mut [u32],
-    n: usize,
-    a: u32,
-    b: u32,
-    masks: &[u32],
-    parameters: &[f64],
-    nv: usize,
-    bounds: Bounds,
-) -> bool
+fn edge_passes(area: &mut [u32], n: usize, a: u32, b: u32, strata: Strata) -> bool
     requires { (n ≤ 16384) × (88 * n ≤ length area.old) × (every (λ t. nodup (vertices_of t)) (tets n area.old) ≡ true) }
-    ensures { (result ≡ (sub (bits_of (stratum_of masks.now (points_of nv parameters.now) bounds a)) (bits_of (stratum_of masks.now (points_of nv parameters.now) bounds b))
-        && link_ok (stratum_of masks.now (points_of nv parameters.now) bounds) a b (tets n area.old))) × KeptBelow (4 * n) area.old area.new }
+    ensures { (result ≡ (sub (bits_of (strata_in strata.entry a)) (bits_of (strata_in strata.entry b))
+        && link_ok (strata_in strata.entry) a b (tets n area.old))) × KeptBelow (4 * n) area.old area.new }
 {
-    if a == b {
-        return true;
-    }
-    if !stratum_inside(masks, parameters, nv, bounds, a, b) {
-        return false;
-    }
-    edge_ok(area, n, a, b, masks, parameters, nv, bounds)
+    a == b || strata.is_inside(a, b) && edge_ok(area, n, a, b, strata)
 }
 
 // Whether each of the first n elements has four different vertices.
 fn all_four_different(area: &[u32], n: usize) -> bool
     ensures { result ≡ every (λ t. nodup (vertices_of t)) (tets n area.now) }
 {
-    let mut e = 0;
-    while e < n {
-        let t = tet_at(area, e);
-        if !four_different(t) {
-            return false;
-        }
-        e += 1;
-    }
-    true
+    (0..n).all(|e| four_different(tet_at(area, e)))
 }
 
 // Whether n is at most 16,384, an area for n elements fits, and each element has four different vertices.
 fn link_fits(area: &[u32], n: usize) -> bool
     ensures { result ≡ link_fits n area.now }
 {
-    if 16384 < n {
-        return false;
-    }
-    if area.len() < 88 * n {
-        return false;
-    }
-    all_four_different(area, n)
+    n <= 16384 && 88 * n <= area.len() && all_four_different(area, n)
 }
 
-// Whether the bits of a's stratum are b's and the edge a b passes `link_ok` among the n elements at the front of the area. The elements are kept,
-// and behind them all is 0. No where the area is too small or an element has a vertex twice, and then it is as it was.
+impl<'a> Strata<'a> {
+    // Whether the bits of a's stratum are b's and the edge a b passes `link_ok` among the n elements at the front of the area. The elements
+    // are kept, and behind them all is 0. No where the area is too small or an element has a vertex twice, and then it is as it was.
+    pub fn link_ok_in(self, area: &mut [u32], n: usize, a: u32, b: u32) -> bool
+        ensures { ◌≡◌ {A = Tested} (record { answer = result; area = area.new })
+            (link_ok_in (strata_in self.entry) a b n area.old) }
+    {
+        if !link_fits(area, n) {
+            return false;
+        }
+        let ok = edge_passes(area, n, a, b, self);
+        clear_from(area, 4 * n);
+        ok
+    }
+}
+
+// Whether an edge may be collapsed, as `Strata::link_ok_in` says.
 pub fn link_ok_in(
     area: &mut [u32],
     n: usize,
@@ -142,10 +104,5 @@ pub fn link_ok_in(
     ensures { ◌≡◌ {A = Tested} (record { answer = result; area = area.new })
         (link_ok_in (stratum_of masks.now (points_of nv parameters.now) bounds) a b n area.old) }
 {
-    if !link_fits(area, n) {
-        return false;
-    }
-    let ok = edge_passes(area, n, a, b, masks, parameters, nv, bounds);
-    clear_from(area, 4 * n);
-    ok
+    Strata::new(masks, parameters, nv, bounds).link_ok_in(area, n, a, b)
 }

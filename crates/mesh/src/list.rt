@@ -2,20 +2,20 @@
 //
 // An area for n slots has 32 n words: the slots, 4 n words; the bad elements, at most 4 n words; the rows of their edges or faces, at most
 // 12 n words; as many words of scratch.
-ghost use Rattle.std.specs.Prelude.{◌≡◌, ◌+◌, ◌-◌, ◌*◌, ◌<◌, ◌≤◌, ◌++◌, map, length, take, drop};
-ghost use Rattle.mesh.specs.Words.{points_of, zero_words, flat};
+ghost use Rattle.std.specs.Prelude.{◌≡◌, ℕ, List, ◌+◌, ◌-◌, ◌*◌, ◌<◌, ◌≤◌, ◌++◌, map, length, take, drop};
+ghost use Rattle.mesh.specs.declared.element.Tet.{Tet};
+ghost use Rattle.mesh.specs.Words.{points_of, points_in, zero_words, flat};
 ghost use Rattle.mesh.specs.inside.Rows.{rows, unique_rows, unique_area};
 ghost use Rattle.mesh.specs.Complex.{keep};
 ghost use Rattle.mesh.specs.Element.{tets, vertices_of};
 ghost use Rattle.mesh.specs.inside.Manifold.{filled};
-ghost use Rattle.mesh.specs.inside.Euler.{edge_row_at, triangle_row_at};
-ghost use Rattle.mesh.specs.inside.List.{bad_in, set_of, bad_edges, bad_faces, list_fits, Listing, listed_in, stacked};
+ghost use Rattle.mesh.specs.inside.Euler.{spread, edge_rows, triangle_rows, edge_row_at, triangle_row_at};
+ghost use Rattle.mesh.specs.inside.List.{bad_in, set_of, bad_edges, bad_faces, Listing, listed_in, stacked, Kind};
 
 use crate::element::Tet;
 use crate::euler::{list_edges, list_triangles};
-use crate::measure::is_bad_element;
-use crate::rows::{put_four, sort_from, unique_rows};
-use crate::vertex::tet_at;
+use crate::rows::{put_row, sort_from, unique_rows};
+use crate::vertex::{Points, fits, tet_at};
 use crate::words::clear_from;
 
 // How many bad elements, and how many rows.
@@ -25,42 +25,25 @@ pub struct Listed {
     pub rows: usize,
 }
 
-// Whether n is at most 65,536 and an area for n slots fits into m words.
-fn list_fits(n: usize, m: usize) -> bool
-    ensures { result ≡ list_fits n m }
-{
-    if 65536 < n {
-        return false;
-    }
-    32 * n <= m
-}
-
 // Whether an element is bad; no element is in a slot whose first word is 0xFFFFFFFF.
-pub(crate) fn is_bad_tet(points: &[f64], nv: usize, t: Tet) -> bool
-    ensures { result ≡ bad_in (points_of nv points.now) t }
+pub(crate) fn is_bad_tet(points: Points, t: Tet) -> bool
+    ensures { result ≡ bad_in (points_in points.entry) t }
 {
-    if t.a == 0xffff_ffff {
-        return false;
-    }
-    is_bad_element(points, nv, t)
+    t.a != 0xffff_ffff && points.is_bad(t)
 }
 
 // Writes the bad elements of n slots behind them, and gives how many.
-fn list_bad(points: &[f64], nv: usize, area: &mut [u32], n: usize) -> usize
+fn list_bad(points: Points, area: &mut [u32], n: usize) -> usize
     requires { (n ≤ 65536) × (32 * n ≤ length area.old) }
-    ensures { (result ≡ length (keep (bad_in (points_of nv points.now)) (tets n area.old)))
-        × (area.new ≡ stacked (map vertices_of (keep (bad_in (points_of nv points.now)) (tets n area.old))) 4 (4 * n) area.old) }
+    ensures { (result ≡ length (keep (bad_in (points_in points.entry)) (tets n area.old)))
+        × (area.new ≡ stacked (map vertices_of (keep (bad_in (points_in points.entry)) (tets n area.old))) 4 (4 * n) area.old) }
 {
     let mut k = 0;
-    let mut e = 0;
-    while e < n {
+    for e in 0..n {
         let t = tet_at(area, e);
-        if is_bad_tet(points, nv, t) {
-            put_four(area, 4 * n + 4 * k, t.a, t.b, t.c, t.d);
+        if is_bad_tet(points, t) {
+            put_row(area, 4 * n + 4 * k, &[t.a, t.b, t.c, t.d]);
             k += 1;
-            e += 1;
-        } else {
-            e += 1;
         }
     }
     k
@@ -88,41 +71,103 @@ pub(crate) fn set_from(area: &mut [u32], a: usize, n: usize, w: usize) -> usize
     k
 }
 
-// The rows of the edges of the k elements from a on, behind them.
-fn edges_from(area: &mut [u32], a: usize, k: usize)
-    requires { (a ≤ length area.old) × (k ≤ 65536) × (28 * k ≤ length (drop a area.old)) }
-    ensures { area.new ≡ take a area.old ++ filled (edge_row_at (drop a area.old)) 2 (4 * k) (6 * k) (drop a area.old) }
-{
-    list_edges(&mut area[a..], k);
+// A kind of simplices of elements, as rows of W words, EACH of them an element.
+pub(crate) trait Simplices<const W: usize, const EACH: usize> {
+    ghost row_at: { List ℕ → ℕ → List ℕ };
+
+    ghost rows_of: { Tet → List (List ℕ) };
+
+    // The rows of n elements, behind them.
+    fn list(area: &mut [u32], n: usize)
+        requires { (n ≤ 65536) × (28 * n ≤ length area.old) }
+        ensures { area.new ≡ filled (row_at area.old) W (4 * n) (EACH * n) area.old };
 }
 
-// The rows of the triangles of the k elements from a on, behind them.
-fn triangles_from(area: &mut [u32], a: usize, k: usize)
-    requires { (a ≤ length area.old) × (k ≤ 65536) × (28 * k ≤ length (drop a area.old)) }
-    ensures { area.new ≡ take a area.old ++ filled (triangle_row_at (drop a area.old)) 3 (4 * k) (4 * k) (drop a area.old) }
-{
-    list_triangles(&mut area[a..], k);
+pub(crate) struct Edges;
+
+impl Simplices<2, 6> for Edges {
+    ghost row_at = { edge_row_at };
+
+    ghost rows_of = { edge_rows };
+
+    fn list(area: &mut [u32], n: usize) {
+        list_edges(area, n);
+    }
 }
 
-// The bad elements of n slots at the front of the area, and their edges. The slots are kept; behind them stand the bad elements, then
+// The faces by their keys.
+pub(crate) struct Faces;
+
+impl Simplices<3, 4> for Faces {
+    ghost row_at = { triangle_row_at };
+
+    ghost rows_of = { triangle_rows };
+
+    fn list(area: &mut [u32], n: usize) {
+        list_triangles(area, n);
+    }
+}
+
+// The rows of the simplices of the k elements from a on, behind them.
+fn rows_from<const W: usize, const EACH: usize, S: Simplices<W, EACH>>(
+    area: &mut [u32],
+    a: usize,
+    k: usize,
+)
+    requires { (a ≤ length area.old) × (k ≤ 65536) × (28 * k ≤ length (drop a area.old)) }
+    ensures { area.new ≡ take a area.old ++ filled (S.row_at (drop a area.old)) W (4 * k) (EACH * k) (drop a area.old) }
+{
+    S::list(&mut area[a..], k);
+}
+
+// The bad elements of n slots at the front of the area, and their simplices. The slots are kept; behind them stand the bad elements, then
 // the rows, then zeros. None, and the area as it was, where it is too small.
-pub fn bad_edges_in(points: &[f64], nv: usize, area: &mut [u32], n: usize) -> Listed
+fn bad_rows_in<const W: usize, const EACH: usize, S: Simplices<W, EACH>>(
+    points: Points,
+    area: &mut [u32],
+    n: usize,
+) -> Listed
+    requires { Kind W EACH S.row_at S.rows_of }
     ensures { ◌≡◌ {A = Listing} (record { listed = result; area = area.new })
-        (listed_in (bad_edges (points_of nv points.now)) (points_of nv points.now) n area.old) }
+        (listed_in (λ ts. set_of (spread S.rows_of (keep (bad_in (points_in points.entry)) ts))) (points_in points.entry) n area.old) }
 {
-    if !list_fits(n, area.len()) {
+    if !fits(n, 32, area.len()) {
         return Listed {
             elements: 0,
             rows: 0,
         };
     }
-    let k = list_bad(points, nv, area, n);
-    edges_from(area, 4 * n, k);
-    let m = set_from(area, 4 * n + 4 * k, 6 * k, 2);
-    Listed {
-        elements: k,
-        rows: m,
+    let elements = list_bad(points, area, n);
+    rows_from::<W, EACH, S>(area, 4 * n, elements);
+    let rows = set_from(area, 4 * n + 4 * elements, EACH * elements, W);
+    Listed { elements, rows }
+}
+
+impl<'a> Points<'a> {
+    // The bad elements of n slots at the front of the area, and their edges. The slots are kept; behind them stand the bad elements, then
+    // the rows, then zeros. None, and the area as it was, where it is too small.
+    pub fn bad_edges_in(self, area: &mut [u32], n: usize) -> Listed
+        ensures { ◌≡◌ {A = Listing} (record { listed = result; area = area.new })
+            (listed_in (bad_edges (points_in self.entry)) (points_in self.entry) n area.old) }
+    {
+        bad_rows_in::<2, 6, Edges>(self, area, n)
     }
+
+    // The same with the keys of their faces.
+    pub fn bad_faces_in(self, area: &mut [u32], n: usize) -> Listed
+        ensures { ◌≡◌ {A = Listing} (record { listed = result; area = area.new })
+            (listed_in (bad_faces (points_in self.entry)) (points_in self.entry) n area.old) }
+    {
+        bad_rows_in::<3, 4, Faces>(self, area, n)
+    }
+}
+
+// The bad elements of n slots at the front of the area, and their edges, as `Points::bad_edges_in` says.
+pub fn bad_edges_in(points: &[f64], nv: usize, area: &mut [u32], n: usize) -> Listed
+    ensures { ◌≡◌ {A = Listing} (record { listed = result; area = area.new })
+        (listed_in (bad_edges (points_of nv points.now)) (points_of nv points.now) n area.old) }
+{
+    Points::new(points, nv).bad_edges_in(area, n)
 }
 
 // The same with the keys of their faces.
@@ -130,17 +175,5 @@ pub fn bad_faces_in(points: &[f64], nv: usize, area: &mut [u32], n: usize) -> Li
     ensures { ◌≡◌ {A = Listing} (record { listed = result; area = area.new })
         (listed_in (bad_faces (points_of nv points.now)) (points_of nv points.now) n area.old) }
 {
-    if !list_fits(n, area.len()) {
-        return Listed {
-            elements: 0,
-            rows: 0,
-        };
-    }
-    let k = list_bad(points, nv, area, n);
-    triangles_from(area, 4 * n, k);
-    let m = set_from(area, 4 * n + 4 * k, 4 * k, 3);
-    Listed {
-        elements: k,
-        rows: m,
-    }
+    Points::new(points, nv).bad_faces_in(area, n)
 }

@@ -5,49 +5,24 @@
 // answer has 5 words: the key, and the numbers of the two elements, the smaller first.
 ghost use Rattle.std.specs.Prelude.{◌≡◌, ◌+◌, ◌*◌, ◌≤◌, ◌&&◌, [], ◌∷◌, map, length, drop, ◌==◌};
 ghost use Rattle.std.proofs.Math.Seq.{paste};
-ghost use Rattle.mesh.specs.Words.{word_at, points_of};
+ghost use Rattle.mesh.specs.Words.{word_at, points_of, points_in};
 ghost use Rattle.mesh.specs.inside.Rows.{rows};
 ghost use Rattle.mesh.specs.Element.{faces_of, tets};
 ghost use Rattle.mesh.specs.inside.Group.{runs, same_first};
 ghost use Rattle.mesh.specs.inside.List.{Pushed};
-ghost use Rattle.mesh.specs.inside.Shared.{shared_fits, Shares, shared_in, owned_row, bad_mark, owned_from, run_row, runs_rows};
+ghost use Rattle.mesh.specs.inside.Shared.{Shares, shared_in, owned_row, bad_mark, owned_from, run_row, runs_rows};
 
-use crate::element::{Tet, Triple, face_key, tet_face};
+use crate::element::{Tet, face_key, tet_face};
 use crate::list::is_bad_tet;
-use crate::rows::{run_from, sort_from};
-use crate::vertex::tet_at;
-use crate::words::{clear_from, copy_words, word};
-
-// Whether n is at most 65,536 and an area for n elements fits into m words.
-fn shared_fits(n: usize, m: usize) -> bool
-    ensures { result ≡ shared_fits n m }
-{
-    if 65536 < n {
-        return false;
-    }
-    44 * n <= m
-}
+use crate::rows::{put_row, run_from, sort_from};
+use crate::vertex::{Points, fits, tet_at};
+use crate::words::{clear_from, copy_words};
 
 // 1 for a bad element, else 0.
-fn bad_mark(points: &[f64], nv: usize, t: Tet) -> u32
-    ensures { result ≡ bad_mark (points_of nv points.now) t }
+fn bad_mark(points: Points, t: Tet) -> u32
+    ensures { result ≡ bad_mark (points_in points.entry) t }
 {
-    if is_bad_tet(points, nv, t) {
-        return 1;
-    }
-    0
-}
-
-// Writes five words at p.
-fn put_five(area: &mut [u32], p: usize, f: Triple, x: u32, y: u32)
-    requires { p + 5 ≤ length area.old }
-    ensures { area.new ≡ paste area.old p (f.a ∷ f.b ∷ f.c ∷ x ∷ y ∷ []) 5 }
-{
-    area[p] = f.a;
-    area[p + 1] = f.b;
-    area[p + 2] = f.c;
-    area[p + 3] = x;
-    area[p + 4] = y;
+    u32::from(is_bad_tet(points, t))
 }
 
 // Writes the rows of the faces of the element i from p on.
@@ -55,25 +30,21 @@ fn put_faces(area: &mut [u32], p: usize, t: Tet, i: u32, mark: u32)
     requires { p + 20 ≤ length area.old }
     ensures { Pushed (map (owned_row i mark) (faces_of t)) 5 p area.old area.new 4 }
 {
-    let mut k: u32 = 0;
-    while k < 4 {
+    for k in 0..4 {
         let f = face_key(tet_face(t, k));
-        put_five(area, p + 5 * (k as usize), f, i, mark);
-        k += 1;
+        put_row(area, p + 5 * (k as usize), &[f.a, f.b, f.c, i, mark]);
     }
 }
 
 // Writes the rows of the faces of n elements behind them.
-fn list_owned(area: &mut [u32], n: usize, points: &[f64], nv: usize)
+fn list_owned(area: &mut [u32], n: usize, points: Points)
     requires { (n ≤ 65536) × (44 * n ≤ length area.old) }
-    ensures { Pushed (owned_from (points_of nv points.now) 0 (tets n area.old)) 5 (4 * n) area.old area.new (4 * n) }
+    ensures { Pushed (owned_from (points_in points.entry) 0 (tets n area.old)) 5 (4 * n) area.old area.new (4 * n) }
 {
-    let mut i = 0;
-    while i < n {
+    for i in 0..n {
         let t = tet_at(area, i);
-        let mark = bad_mark(points, nv, t);
+        let mark = bad_mark(points, t);
         put_faces(area, 4 * n + 20 * i, t, i as u32, mark);
-        i += 1;
     }
 }
 
@@ -82,10 +53,7 @@ fn none_bad(area: &[u32], p: usize) -> bool
     requires { p + 10 ≤ length area.now }
     ensures { result ≡ (word_at area.now (p + 4) == 0 && word_at area.now (p + 9) == 0) }
 {
-    if word(area, p + 4) != 0 {
-        return false;
-    }
-    word(area, p + 9) == 0
+    area[p + 4] == 0 && area[p + 9] == 0
 }
 
 // Writes what the run of k rows at p gives at q, and gives how many rows that is.
@@ -93,20 +61,11 @@ fn push_run(area: &mut [u32], p: usize, k: usize, q: usize) -> usize
     requires { (p + 5 * k ≤ q) × (q + 5 ≤ length area.old) }
     ensures { Pushed (run_row (rows 5 k (drop p area.old))) 5 q area.old area.new result }
 {
-    if k != 2 {
+    if k != 2 || none_bad(area, p) {
         return 0;
     }
-    if none_bad(area, p) {
-        return 0;
-    }
-    let f = Triple {
-        a: word(area, p),
-        b: word(area, p + 1),
-        c: word(area, p + 2),
-    };
-    let x = word(area, p + 3);
-    let y = word(area, p + 8);
-    put_five(area, q, f, x, y);
+    let row = [area[p], area[p + 1], area[p + 2], area[p + 3], area[p + 8]];
+    put_row(area, q, &row);
     1
 }
 
@@ -118,6 +77,7 @@ fn push_runs(area: &mut [u32], n: usize) -> usize
     let m = 4 * n;
     let mut first = 0;
     let mut count = 0;
+    // Kept by hand: no plainer otherwise. A turn goes over a run of rows, whose length is found in the turn.
     while first < m {
         let k = run_from(area, m, first, m, 5, 3);
         count += push_run(area, m + 5 * first, k, 24 * n + 5 * count);
@@ -126,20 +86,30 @@ fn push_runs(area: &mut [u32], n: usize) -> usize
     count
 }
 
-// The faces of bad elements that exactly two of the n elements at the front of the area have, in key order, behind the elements, and how
-// many they are. The elements are kept, and behind the rows all is 0. None, and the area as it was, where it is too small.
+impl<'a> Points<'a> {
+    // The faces of bad elements that exactly two of the n elements at the front of the area have, in key order, behind the elements, and
+    // how many they are. The elements are kept, and behind the rows all is 0. None, and the area as it was, where it is too small.
+    pub fn shared_faces_in(self, area: &mut [u32], n: usize) -> usize
+        ensures { ◌≡◌ {A = Shares} (record { number = result; area = area.new })
+            (shared_in (points_in self.entry) n area.old) }
+    {
+        if !fits(n, 44, area.len()) {
+            return 0;
+        }
+        let m = 4 * n;
+        list_owned(area, n, self);
+        sort_from(area, m, m, 5);
+        let k = push_runs(area, n);
+        copy_words(area, 24 * n, m, 5 * k);
+        clear_from(area, m + 5 * k);
+        k
+    }
+}
+
+// The faces of bad elements that exactly two elements have, as `Points::shared_faces_in` says.
 pub fn shared_faces_in(area: &mut [u32], n: usize, points: &[f64], nv: usize) -> usize
     ensures { ◌≡◌ {A = Shares} (record { number = result; area = area.new })
         (shared_in (points_of nv points.now) n area.old) }
 {
-    if !shared_fits(n, area.len()) {
-        return 0;
-    }
-    let m = 4 * n;
-    list_owned(area, n, points, nv);
-    sort_from(area, m, m, 5);
-    let k = push_runs(area, n);
-    copy_words(area, 24 * n, m, 5 * k);
-    clear_from(area, m + 5 * k);
-    k
+    Points::new(points, nv).shared_faces_in(area, n)
 }

@@ -4,19 +4,20 @@ ghost use Rattle.mesh.specs.Complex.{mem};
 ghost use Rattle.mesh.specs.inside.Star.{corners_at, chain_length, Free, written};
 ghost use Rattle.mesh.specs.inside.With.{rarer, entry_has, with_if, with_met, any_with, with_list, with_in};
 
-use crate::star::{Index, chain_length, has_room, make_distinct, word_in};
-use crate::words::put_word;
+use crate::star::{
+    Gather, Index, chain_length, has_room, make_distinct, put_each, put_if, word_in,
+};
 
 // The one of v and w whose chain has fewer entries, v where both have as many.
+#[tactic(auto, unfolding(crate::specs::inside::With::rarer))]
 fn rarer(s: &[u32], x: Index, v: u32, w: u32) -> u32
     ensures { result ≡ rarer x s.now v w }
 {
-    let m = chain_length(s, x, v);
-    let n = chain_length(s, x, w);
-    if m <= n {
-        return v;
+    if chain_length(s, x, v) <= chain_length(s, x, w) {
+        v
+    } else {
+        w
     }
-    w
 }
 
 // Whether the slot of the entry p has v.
@@ -24,40 +25,26 @@ fn has_one(s: &[u32], x: Index, v: u32, p: u32) -> bool
     ensures { result ≡ mem v (corners_at x s.now (p / 4)) }
 {
     let q = 4 * (p / 4);
-    let a = word_in(s, x.slots, q);
-    if v == a {
-        return true;
-    }
-    let b = word_in(s, x.slots, q + 1);
-    if v == b {
-        return true;
-    }
-    let c = word_in(s, x.slots, q + 2);
-    if v == c {
-        return true;
-    }
-    let d = word_in(s, x.slots, q + 3);
-    v == d
+    v == word_in(s, x.slots, q)
+        || v == word_in(s, x.slots, q + 1)
+        || v == word_in(s, x.slots, q + 2)
+        || v == word_in(s, x.slots, q + 3)
 }
 
 // Whether it has v and w.
+#[tactic(auto, unfolding(crate::specs::inside::With::entry_has))]
 fn has_two(s: &[u32], x: Index, v: u32, w: u32, p: u32) -> bool
     ensures { result ≡ entry_has x s.now (v ∷ w ∷ []) p }
 {
-    if !has_one(s, x, v, p) {
-        return false;
-    }
-    has_one(s, x, w, p)
+    has_one(s, x, v, p) && has_one(s, x, w, p)
 }
 
 // Whether it has u, v and w.
+#[tactic(auto, unfolding(crate::specs::inside::With::entry_has))]
 fn has_three(s: &[u32], x: Index, u: u32, v: u32, w: u32, p: u32) -> bool
     ensures { result ≡ entry_has x s.now (u ∷ v ∷ w ∷ []) p }
 {
-    if !has_one(s, x, u, p) {
-        return false;
-    }
-    has_two(s, x, v, w, p)
+    has_one(s, x, u, p) && has_two(s, x, v, w, p)
 }
 
 // Whether a live element has u, v and w, by the shorter of the chains of u and v.
@@ -65,9 +52,9 @@ pub fn any_with(s: &[u32], x: Index, u: u32, v: u32, w: u32) -> bool
     ensures { result ≡ any_with x s.now u v w }
 {
     let a = rarer(s, x, u, v);
-    let mut left = chain_length(s, x, a);
+    // Kept by hand: an iterator over a chain would serve this walk alone, since the walk of `put_each` writes into the slice.
     let mut p = word_in(s, x.heads, a);
-    while 0 < left {
+    for _ in 0..chain_length(s, x, a) {
         if x.room <= p / 4 {
             return false;
         }
@@ -75,21 +62,27 @@ pub fn any_with(s: &[u32], x: Index, u: u32, v: u32, w: u32) -> bool
             return true;
         }
         p = word_in(s, x.nexts, p);
-        left -= 1;
     }
     false
 }
 
-// Puts the slot of the entry p at k where it has v and w, and gives how many words that took.
-fn put_two(s: &mut [u32], x: Index, v: u32, w: u32, p: u32, k: usize) -> usize
-    requires { k < length s.old }
-    ensures { (result ≡ length (with_if x s.old (v ∷ w ∷ []) p)) × (s.new ≡ written s.old k (with_if x s.old (v ∷ w ∷ []) p)) }
-{
-    if !has_two(s, x, v, w, p) {
-        return 0;
+// The slot of an entry where it has v and w.
+#[derive(Clone, Copy)]
+struct SlotsWith {
+    v: u32,
+    w: u32,
+}
+
+impl Gather for SlotsWith {
+    ghost width = { 1 };
+
+    ghost words = { λ g x s p. with_if x s (g.v ∷ g.w ∷ []) p };
+
+    #[tactic(auto, unfolding(crate::specs::inside::With::with_if))]
+    fn put(&self, s: &mut [u32], x: Index, p: u32, k: usize) -> usize {
+        let has = has_two(s, x, self.v, self.w, p);
+        put_if(s, k, p / 4, has)
     }
-    put_word(s, k, p / 4);
-    1
 }
 
 // Puts the slots that have v and w, by the chain of a, at the area's front, and gives how many.
@@ -97,19 +90,7 @@ fn put_with(s: &mut [u32], x: Index, a: u32, v: u32, w: u32) -> usize
     requires { Free x s.old x.area (chain_length x s.old a) }
     ensures { (result ≡ length (with_met x s.old a (v ∷ w ∷ []))) × (s.new ≡ written s.old x.area (with_met x s.old a (v ∷ w ∷ []))) }
 {
-    let mut left = chain_length(s, x, a);
-    let mut p = word_in(s, x.heads, a);
-    let mut n = 0;
-    while 0 < left {
-        if x.room <= p / 4 {
-            return n;
-        }
-        let m = put_two(s, x, v, w, p, x.area + n);
-        n += m;
-        p = word_in(s, x.nexts, p);
-        left -= 1;
-    }
-    n
+    put_each(s, x, a, x.area, &SlotsWith { v, w })
 }
 
 // Lists the live elements that have v and w, in number order, each once, at the area's front, and gives how many. None where there is no

@@ -6,5 +6,6 @@ pub mod Improve
 pub mod Smooth
 pub mod Flip
 pub mod Step
+pub mod Answer
 pub mod Wholeness
 pub mod inside

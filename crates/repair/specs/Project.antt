@@ -1,8 +1,7 @@
 -- `project_candidate` on values (document 01, "Field"; intersection.rs): a candidate is moved onto the zero sets of the active fields, by
 -- at most 12 steps and only in the directions that are not locked. A step solves for the shortest displacement that brings the fields,
 -- taken as linear, to 0. Each operation is rounded once. Definitions only.
-use Rattle.std.specs.Prelude.{ℕ, zero, suc, ◌+◌, Bool, true, false, not, cond, ◌&&◌, ◌||◌, List, [], ◌∷◌, ◌++◌, map, eqb, Float, length, get_or, set}
-use Rattle.std.proofs.Math.Option.{Option, none, some}
+use Rattle.std.specs.Prelude.{ℕ, zero, suc, ◌+◌, Bool, true, false, not, cond, ◌&&◌, ◌||◌, List, [], ◌∷◌, ◌++◌, map, eqb, Float, length, get_or, set, Option, Some, None}
 use Rattle.std.specs.Float.{nan, inf, fin}
 use Rattle.std.specs.Float.Ieee.{is_nan, lt, eq}
 use Rattle.geometry.specs.declared.point.Point.{Point}
@@ -14,8 +13,6 @@ use Rattle.geometry.specs.Point.{dot}
 use Rattle.geometry.specs.Field.{value, gradient, magnitude}
 use Rattle.mesh.specs.Words.{zero_point}
 use Rattle.mesh.specs.Tests.{every}
-use Rattle.repair.specs.declared.project.Projected.{Projected}
-use Rattle.repair.specs.declared.project.Projected.TheVariants.{Found, Nothing}
 
 -- neither a NaN nor an infinity
 abbrev pub finite : Float → Bool
@@ -120,11 +117,11 @@ solved_at k m =
 
 -- the n columns from k on solved; none where a pivot is not finite or below 64 epsilon in size
 unfoldable pub solved : ℕ → ℕ → List (List Float) → Option (List (List Float))
-solved k zero m = some m
+solved k zero m = Some m
 solved k (suc n) m =
     let m₁ = exchanged k (pivot m k k (k + 1) n) m in
     let d = entry m₁ k k in
-    cond (finite d && not (lt (absolute d) 64epsilon)) (solved (k + 1) n (solved_at k m₁)) none
+    cond (finite d && not (lt (absolute d) 64epsilon)) (solved (k + 1) n (solved_at k m₁)) None
 
 -- ---- the steps
 
@@ -142,6 +139,10 @@ moved rs m p = record {
   z = p.z -₆₄ total (products (λ g. g.z) rs m (length rs));
 }
 
+-- the point found, or none
+abbrev pub Projected : Type 0
+Projected = Option Point
+
 -- a step ends the work, or hands on a point
 pub data Step : Type 0 where
   ended : Projected → Step
@@ -150,25 +151,25 @@ pub data Step : Type 0 where
 module _ (b : Bounds) (origin : Point) (active : List Field) where
   -- the point moved in the directions that are not locked, which must be finite; nothing without a solution
   abbrev pub onward_from : Point → List Row → Option (List (List Float)) → Step
-  onward_from p rs none = ended Nothing
-  onward_from p rs (some m) =
+  onward_from p rs None = ended None
+  onward_from p rs (Some m) =
       let q = held (locked_of b origin) p (moved rs m p) in
-      cond (finite_point q) (onward q) (ended Nothing)
+      cond (finite_point q) (onward q) (ended None)
 
   -- one step: p is found where all values are 0, or all are below 1e-12 of the extent in size once they are divided
   unfoldable pub step : Point → Step
   step p =
       let rs = map (normalised p) active in
       let free = map (freed (locked_of b origin)) rs in
-      cond (every (λ f. eq (value f p) zero64) active) (ended (Found p))
-      (cond (not (every (usable p) active)) (ended Nothing)
-      (cond (every (λ r. lt (absolute r.value) (e_12 *₆₄ extent b)) rs) (ended (Found p))
+      cond (every (λ f. eq (value f p) zero64) active) (ended (Some p))
+      (cond (not (every (usable p) active)) (ended None)
+      (cond (every (λ r. lt (absolute r.value) (e_12 *₆₄ extent b)) rs) (ended (Some p))
       (onward_from p free (solved 0 (length free) (matrix free)))))
 
   -- at most n steps; nothing where the last of them hands on a point
   unfoldable pub steps : ℕ → Step → Projected
   steps zero (ended r) = r
-  steps zero (onward p) = Nothing
+  steps zero (onward p) = None
   steps (suc n) (ended r) = r
   steps (suc n) (onward p) = steps n (step p)
 

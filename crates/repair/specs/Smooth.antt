@@ -1,6 +1,6 @@
 -- `smooth` on values (document 01, "Element and surface"; `smooth` of repair.rs): group by group in rank order, the groups being those at
 -- the start; a later group sees the moves of earlier ones. Definitions only.
-use Rattle.std.specs.Prelude.{ℕ, ◌+◌, ◌/◌, ◌%◌, Bool, not, cond, ◌&&◌, ◌||◌, List, [], ◌∷◌, ◌++◌, map, eqb, pos, Float, length, get_or, set}
+use Rattle.std.specs.Prelude.{ℕ, ◌+◌, ◌/◌, ◌%◌, Bool, not, cond, ◌&&◌, ◌||◌, List, [], ◌∷◌, ◌++◌, map, eqb, pos, Float, length, get_or, set, Some, None}
 use Rattle.std.proofs.Math.Option.{Option, none, some}
 use Rattle.std.specs.Float.{binary64}
 use Rattle.std.specs.Float.Ieee.{lt, eq, of_int}
@@ -19,10 +19,8 @@ use Rattle.mesh.specs.Tests.{every, any}
 use Rattle.mesh.specs.Group.{groups}
 use Rattle.mesh.specs.Intake.{in_box}
 use Rattle.mesh.specs.Measure.{measure, lowest_of}
-use Rattle.repair.specs.declared.project.Projected.{Projected}
-use Rattle.repair.specs.declared.project.Projected.TheVariants.{Found, Nothing}
 use Rattle.repair.specs.Mesh.{Mesh, Result, made, has}
-use Rattle.repair.specs.Project.{project}
+use Rattle.repair.specs.Project.{Projected, project}
 
 -- ---- fields and regions
 
@@ -131,8 +129,8 @@ allowed o fields regions origin active p =
 module _ (o : Options) (fields : List Field) (regions : Option (List ℕ)) (ts : List Tet) (s : State) (g : List ℕ) (origin : Point) (active : List Field) where
   -- a candidate as it was projected
   abbrev pub tried : Best → Projected → Best
-  tried best Nothing = best
-  tried best (Found p) = cond (allowed o fields regions origin active p) (better ts (move_to o s g p).points p best) best
+  tried best None = best
+  tried best (Some p) = cond (allowed o fields regions origin active p) (better ts (move_to o s g p).points p best) best
 
   -- the candidates one after the other
   unfoldable pub best_of : Best → List Point → Best

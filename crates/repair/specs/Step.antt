@@ -11,8 +11,6 @@ use Rattle.mesh.specs.Element.{tets, triples, all_vertices, all_corners}
 use Rattle.mesh.specs.declared.intake.Settings.{Settings}
 use Rattle.mesh.specs.declared.intake.Lengths.{Lengths}
 use Rattle.mesh.specs.Intake.{Given, intake}
-use Rattle.repair.specs.declared.answer.Answer.{Answer}
-use Rattle.repair.specs.declared.answer.Answer.TheVariants.{Done, Refused}
 use Rattle.repair.specs.Mesh.{Mesh, Result, made, refused}
 use Rattle.repair.specs.Improve
 use Rattle.repair.specs.Smooth
@@ -59,6 +57,11 @@ regions_of false regions = none
 regions_of true regions = some regions
 
 -- ---- the answer
+
+-- done with a count and the sizes of the mesh, or refused with a number
+pub data Answer : Type 0 where
+  Done : ℕ → Sizes → Answer
+  Refused : ℕ → Answer
 
 -- "gives its result or one number of document 01's table": the number, 0 with a result
 abbrev pub number_of : Answer → ℕ

@@ -1,10 +1,9 @@
-// What a pass answers.
+// What a pass answers where nothing refuses.
 use mesh::intake::Sizes;
 
-// Done with its count and the sizes that the mesh now has, or refused with a number of document 01's
-// table.
+// How many collapses, moves or flips were made, and the sizes that the mesh now has.
 #[derive(Clone, Copy)]
-pub enum Answer {
-    Done { count: usize, sizes: Sizes },
-    Refused(u32),
+pub struct Made {
+    pub count: usize,
+    pub sizes: Sizes,
 }

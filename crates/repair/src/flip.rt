@@ -14,11 +14,11 @@ mod two_to_three;
 ghost use Rattle.std.specs.Prelude.{◌≡◌, List, ℕ, length};
 ghost use Rattle.std.proofs.Math.Option.{none};
 ghost use Rattle.mesh.specs.Words.{zero_words, zero_floats};
-ghost use Rattle.repair.specs.declared.answer.Answer.{Answer};
-ghost use Rattle.repair.specs.Step.{State, Pass, held, call_of, number_of, values_of, in_numbers, sizes_after, step};
+ghost use Rattle.repair.specs.Answer.{answer_of};
+ghost use Rattle.repair.specs.Step.{Answer, State, Pass, held, call_of, number_of, values_of, in_numbers, sizes_after, step};
 ghost use Rattle.repair.specs.inside.flip.Fitting.{FlipFitting, flip_whole};
 
-use crate::answer::Answer;
+use crate::answer::Made;
 use crate::flip::finish::finish_flip;
 use crate::flip::layout::flip_layout;
 use crate::flip::prepare::begin_flip;
@@ -26,6 +26,7 @@ use crate::flip::tries::{try_edges, try_faces};
 use geometry::field::Field;
 use mesh::about::live_elements;
 use mesh::intake::{Settings, Sizes, intake};
+use mesh::refusal::Refusal;
 use mesh::words::clear;
 
 // The pass on a mesh that passed intake.
@@ -35,9 +36,9 @@ fn flip_all(
     elements: &mut [u32],
     surface: &mut [u32],
     work: &mut [u32],
-) -> Answer
+) -> Result<Made, Refusal>
     requires { FlipFitting sizes elements.old surface.old work.old }
-    ensures { ◌≡◌ {A = Answer × List ℕ × List ℕ} (result, elements.new, surface.new)
+    ensures { ◌≡◌ {A = Answer × List ℕ × List ℕ} (answer_of result, elements.new, surface.new)
         (flip_whole sizes points.now elements.old surface.old) }
 {
     let n = sizes.elements as u32;
@@ -61,15 +62,15 @@ pub fn flip(
     surface: &mut [u32],
     work: &mut [u32],
     floats: &mut [f64],
-) -> Answer
+) -> Result<Made, Refusal>
     ensures fact { ◌≡◌ {A = ℕ × List ℕ × State}
-        (number_of result, values_of result, held (sizes_after result s.sizes) parameters.now points.now masks.now elements.new surface.new)
+        (number_of (answer_of result), values_of (answer_of result), held (sizes_after (answer_of result) s.sizes) parameters.now points.now masks.now elements.new surface.new)
         (in_numbers (step (call_of Pass.flip s fields none work.old floats.old)
         (held s.sizes parameters.now points.now masks.now elements.old surface.old))) }
     ensures work_after { work.new ≡ zero_words (length work.old) }
     ensures floats_after { floats.new ≡ zero_floats (length floats.old) }
 {
-    let number = intake(
+    intake(
         s,
         fields,
         parameters,
@@ -79,10 +80,7 @@ pub fn flip(
         surface.len(),
         work,
         floats,
-    );
-    if number != 0 {
-        return Answer::Refused(number);
-    }
+    )?;
     let answer = flip_all(s.sizes, points, elements, surface, work);
     clear(work);
     answer

@@ -2,6 +2,7 @@
 mod collapse;
 mod edges;
 mod gain;
+mod inputs;
 mod pair_test;
 mod partners;
 mod prepare;
@@ -13,15 +14,17 @@ ghost use Rattle.std.proofs.Math.Option.{none};
 ghost use Rattle.mesh.specs.Words.{zero_words, zero_floats};
 ghost use Rattle.mesh.specs.Element.{tets};
 ghost use Rattle.mesh.specs.Measure.{measure};
-ghost use Rattle.repair.specs.declared.answer.Answer.{Answer};
 ghost use Rattle.repair.specs.Mesh.{Mesh};
 ghost use Rattle.repair.specs.Improve as def;
-ghost use Rattle.repair.specs.inside.Layout.{Stands, Reads, Ready};
+ghost use Rattle.repair.specs.inside.Layout.{Reads};
+ghost use Rattle.repair.specs.Answer.{answer_of};
 ghost use Rattle.repair.specs.Step.{State, Pass, held, call_of, number_of, values_of, in_numbers, sizes_after, step};
+ghost use Rattle.repair.specs.inside.improve.Round.{ReadsOf, StandsOf, ReadyOf};
 ghost use Rattle.repair.specs.inside.improve.Fitting.{Fitting, Collapsed, after_rounds};
 
-use crate::answer::Answer;
+use crate::answer::Made;
 use crate::improve::edges::list_edges;
+use crate::improve::inputs::Inputs;
 use crate::improve::prepare::begin;
 use crate::improve::renumber::finish_improve;
 use crate::improve::round::round;
@@ -30,7 +33,7 @@ use geometry::bounds::{Options, spacing};
 use geometry::field::Field;
 use mesh::about::live_elements;
 use mesh::intake::{Settings, Sizes, intake};
-use mesh::star::Index;
+use mesh::refusal::Refusal;
 use mesh::words::{clear, clear_floats};
 
 // What the rounds leave: how many vertices are replaced, how many elements there are, and where in the work slice they stand.
@@ -41,31 +44,22 @@ struct Rest {
     area: usize,
 }
 
-// At most o.passes rounds, ended by one that collapses nothing. Gives how many vertices were replaced.
-fn rounds(
-    work: &mut [u32],
-    x: Index,
-    o: Options,
-    masks: &[u32],
-    parameters: &[f64],
-    points: &[f64],
-) -> usize
-    requires { Ready o x x.room work.old parameters.now points.now masks.now × (o.passes ≤ 16) }
-    ensures { (m : Mesh) (s : def.State) → Reads m x.vertices parameters.now points.now masks.now → Stands o m x x.room work.old s
-        → Stands o m x x.room work.new (def.rounds o m (measure m.points) o.passes s)
-        × (length (def.rounds o m (measure m.points) o.passes s).replaced ≡ result + length s.replaced) }
+// At most as many rounds as the options allow, ended by one that collapses nothing. Gives how many vertices were replaced.
+fn rounds(work: &mut [u32], given: &Inputs) -> usize
+    requires { ReadyOf given.now work.old × (given.now.options.passes ≤ 16) }
+    ensures { (m : Mesh) (s : def.State) → ReadsOf given.now m → StandsOf given.now m work.old s
+        → StandsOf given.now m work.new (def.rounds given.now.options m (measure m.points) given.now.options.passes s)
+        × (length (def.rounds given.now.options m (measure m.points) given.now.options.passes s).replaced ≡ result + length s.replaced) }
 {
-    let limit = 0.75 * spacing(o);
+    let limit = 0.75 * spacing(given.options);
     let mut replaced = 0;
-    let mut left = o.passes;
-    while 0 < left {
-        let count = list_edges(work, x, points, limit);
-        let k = round(work, x, count, o, masks, parameters, points);
+    for _made in 0..given.options.passes {
+        let count = list_edges(work, given.index, given.points, limit);
+        let k = round(work, given, count);
         if k == 0 {
             return replaced;
         }
         replaced += k;
-        left -= 1;
     }
     replaced
 }
@@ -86,11 +80,16 @@ fn collapse_edges(
 {
     let x = layout(sizes.vertices as u32, sizes.elements as u32);
     begin(work, x, o, parameters, elements);
-    let count = rounds(work, x, o, masks, parameters, points);
-    let k = live_elements(work, x, sizes.elements);
+    let given = Inputs {
+        index: x,
+        options: o,
+        masks,
+        parameters,
+        points,
+    };
     Rest {
-        replaced: count,
-        elements: k,
+        replaced: rounds(work, &given),
+        elements: live_elements(work, x, sizes.elements),
         area: x.area,
     }
 }
@@ -106,15 +105,15 @@ pub fn improve(
     surface: &mut [u32],
     work: &mut [u32],
     floats: &mut [f64],
-) -> Answer
+) -> Result<Made, Refusal>
     ensures fact { ◌≡◌ {A = ℕ × List ℕ × State}
-        (number_of result, values_of result, held (sizes_after result s.sizes) parameters.new points.new masks.new elements.new surface.new)
+        (number_of (answer_of result), values_of (answer_of result), held (sizes_after (answer_of result) s.sizes) parameters.new points.new masks.new elements.new surface.new)
         (in_numbers (step (call_of Pass.improve s fields none work.old floats.old)
         (held s.sizes parameters.old points.old masks.old elements.old surface.old))) }
     ensures work_after { work.new ≡ zero_words (length work.old) }
     ensures floats_after { floats.new ≡ zero_floats (length floats.old) }
 {
-    let number = intake(
+    intake(
         s,
         fields,
         parameters,
@@ -124,10 +123,7 @@ pub fn improve(
         surface.len(),
         work,
         floats,
-    );
-    if number != 0 {
-        return Answer::Refused(number);
-    }
+    )?;
     let rest = collapse_edges(
         s.sizes, s.options, parameters, points, masks, elements, work,
     );

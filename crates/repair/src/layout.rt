@@ -9,6 +9,8 @@
 //   lengths  nv
 //   edges    24 n  the round's edges, four words each: two of the length, two vertices
 //   area           the rest
+//
+// Kept by hand: areas at offsets of one slice, since the C interface lends one buffer, and nothing is allocated.
 ghost use Rattle.std.specs.Prelude.{◌≡◌, ℕ, ◌+◌, ◌*◌, ◌≤◌};
 ghost use Rattle.repair.specs.inside.Layout.{Room, flags_at, pairs_at, edges_at};
 
@@ -33,10 +35,10 @@ pub(crate) fn layout(nv: u32, n: u32) -> Index
     let slots = 10 * v;
     let lengths = slots + w + w + v;
     Index {
-        slots: slots,
+        slots,
         nexts: slots + w,
         heads: slots + w + w,
-        lengths: lengths,
+        lengths,
         area: lengths + v + 6 * w,
         room: n,
         vertices: nv,

@@ -3,7 +3,7 @@ ghost use Rattle.std.specs.Prelude.{◌≡◌, ◌+◌, ◌*◌, ◌≤◌, leng
 ghost use Rattle.mesh.specs.Words.{word_at, points_of};
 ghost use Rattle.mesh.specs.Element.{tet, tets};
 ghost use Rattle.mesh.specs.Measure.{measure};
-ghost use Rattle.repair.specs.inside.Quality.{counted, refused_of, judged, started, tallied};
+ghost use Rattle.repair.specs.inside.Quality.{counted, judged, started, tallied};
 
 use geometry::float::smaller;
 use geometry::score::is_bad;
@@ -11,12 +11,11 @@ use mesh::element::{Tet, four_different};
 use mesh::measure::{measured_of, score_of};
 use mesh::words::word;
 
-// The lowest score so far, how many elements are bad, and whether all were allowed.
+// The lowest score so far, and how many elements are bad.
 #[derive(Clone, Copy)]
 pub struct Tally {
     pub lowest: f64,
     pub bad: usize,
-    pub ok: bool,
 }
 
 // No elements yet.
@@ -26,7 +25,6 @@ pub(crate) fn start() -> Tally
     Tally {
         lowest: 1.0,
         bad: 0,
-        ok: true,
     }
 }
 
@@ -35,29 +33,9 @@ pub(crate) fn counted(r: Tally, s: f64) -> Tally
     requires { r.bad ≤ 16384 }
     ensures { result ≡ counted r s }
 {
-    let low = smaller(r.lowest, s);
-    if is_bad(s) {
-        return Tally {
-            lowest: low,
-            bad: r.bad + 1,
-            ok: r.ok,
-        };
-    }
     Tally {
-        lowest: low,
-        bad: r.bad,
-        ok: r.ok,
-    }
-}
-
-// An element that is not allowed.
-fn refused(r: Tally) -> Tally
-    ensures { result ≡ refused_of r }
-{
-    Tally {
-        lowest: r.lowest,
-        bad: r.bad,
-        ok: false,
+        lowest: smaller(r.lowest, s),
+        bad: if is_bad(s) { r.bad + 1 } else { r.bad },
     }
 }
 
@@ -81,23 +59,20 @@ pub(crate) fn element_from(work: &[u32], p: usize) -> Tet
     }
 }
 
-// The element t, passed over where two of its vertices are the same; allowed with determinant above 0 and a score no more than 1e-12
-// below the limit.
-pub(crate) fn judge(r: Tally, points: &[f64], nv: usize, limit: f64, t: Tet) -> Tally
+// The element t counted too, unless two of its vertices are the same; nothing where it is not allowed, which is with determinant above 0
+// and a score no more than 1e-12 below the limit.
+pub(crate) fn judge(r: Tally, points: &[f64], nv: usize, limit: f64, t: Tet) -> Option<Tally>
     requires { r.bad ≤ 16384 }
     ensures { result ≡ judged (measure (points_of nv points.now)) limit r t }
 {
     if !four_different(t) {
-        return r;
+        return Some(r);
     }
     let m = measured_of(points, nv, t);
-    if !m.above {
-        return refused(r);
+    if !m.above || m.score + 1e-12 < limit {
+        return None;
     }
-    if m.score + 1e-12 < limit {
-        return refused(r);
-    }
-    counted(r, m.score)
+    Some(counted(r, m.score))
 }
 
 // The elements that stand at p, n of them, four words each.
@@ -106,14 +81,9 @@ pub(crate) fn tally_elements(work: &[u32], p: usize, n: usize, points: &[f64], n
     ensures { result ≡ tallied (measure (points_of nv points.now)) started (tets n (drop p work.now)) }
 {
     let mut r = start();
-    let mut q = p;
-    let mut left = n;
-    while 0 < left {
-        let t = element_from(work, q);
-        let s = score_of(points, nv, t);
-        r = counted(r, s);
-        q += 4;
-        left -= 1;
+    for i in 0..n {
+        let t = element_from(work, p + 4 * i);
+        r = counted(r, score_of(points, nv, t));
     }
     r
 }

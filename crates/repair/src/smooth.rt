@@ -14,21 +14,25 @@ ghost use Rattle.mesh.specs.Group.{groups};
 ghost use Rattle.mesh.specs.Intake.{well_numbered};
 ghost use Rattle.mesh.specs.Measure.{measure, lowest_of};
 ghost use Rattle.repair.specs.Smooth.{mean, best_for, smooth_group, smooth_groups};
+ghost use Rattle.repair.specs.inside.smooth.Candidates.{regions_in};
 ghost use Rattle.repair.specs.inside.smooth.Site.{members, about, state_of, best_in, Turned, SameTo, Ready, Slots, Rows, Listed, Sited, Started, used_words, mesh_read, mesh_for, Grouped};
+ghost use Rattle.repair.specs.Answer.{answer_of};
 ghost use Rattle.repair.specs.Step.{State, Pass, held, call_of, regions_of, number_of, values_of, in_numbers, step};
 
-use crate::answer::Answer;
+use crate::answer::Made;
 use crate::layout::{RANK_WORDS, ROW_WORDS, SORT_WORDS, layout};
+use crate::project::counted;
 use crate::smooth::candidates::mean_of;
 use crate::smooth::choose::{Best, Start, best_candidate};
 use crate::smooth::move_group::move_group;
-use crate::smooth::trial_scores::{Site, lowest_about};
+use crate::smooth::trial_scores::{Site, View, lowest_about};
 use geometry::bounds::{Options, canonical};
 use geometry::field::Field;
 use geometry::point::Point;
 use mesh::about::star_about;
 use mesh::group::group_in;
 use mesh::intake::{Settings, Sizes, intake};
+use mesh::refusal::Refusal;
 use mesh::rows::run_length;
 use mesh::star::{Index, build, neighbours};
 use mesh::vertex::vertex_point;
@@ -53,8 +57,8 @@ fn list_about(work: &mut [u32], x: Index, group: usize, count: usize) -> Site
     let n = star_about(work, x, group, count, ROW_WORDS);
     Site {
         vertices: x.vertices as usize,
-        group: group,
-        count: count,
+        group,
+        count,
         area: x.area,
         about: n,
     }
@@ -75,74 +79,73 @@ fn start_from(o: Options, parameters: &[f64], work: &mut [u32], x: Index, v: u32
 {
     let nv = x.vertices as usize;
     let a = x.area + k;
-    let behind = Index {
-        slots: x.slots,
-        nexts: x.nexts,
-        heads: x.heads,
-        lengths: x.lengths,
-        area: a,
-        room: x.room,
-        vertices: x.vertices,
-    };
+    let behind = Index { area: a, ..x };
     let n = neighbours(work, behind, v);
     let mean = mean_at(parameters, nv, work, a, n);
     let original = vertex_point(parameters, nv, v);
     Start {
-        original: original,
+        original,
         origin: canonical(original, o),
         near: n,
-        mean: mean,
+        mean,
     }
+}
+
+// What a call reads and leaves as it is: the fields that count, the masks of the regions if they are listed, and parts of the mesh.
+#[derive(Clone, Copy)]
+struct Input<'a> {
+    options: Options,
+    fields: &'a [Field],
+    regions: Option<&'a [u32]>,
+    masks: &'a [u32],
+    elements: &'a [u32],
+    ghost few: { length fields.now ≤ 8 },
 }
 
 // The best candidate of the group of `site`, whose lowest score is `lowest`.
 fn best_for(
-    s: Settings,
-    fields: [Field; 8],
-    listed: bool,
-    regions: &[u32],
+    c: Input,
     parameters: &[f64],
     points: &[f64],
-    masks: &[u32],
-    elements: &[u32],
     work: &mut [u32],
     x: Index,
     site: Site,
     lowest: f64,
 ) -> Best
-    requires ready { Ready x work.old × Slots x elements.now work.old × Sited x elements.now work.old site }
-    requires lowest_value { lowest ≡ lowest_of (measure (points_of site.vertices points.now)) (about elements.now work.old site.area site.about) }
-    ensures result_value { best_in result ≡ best_for s.options (take s.count fields) (regions_of listed regions.now) (mesh_for x masks.now elements.now)
+    requires ready { Ready x work.old × Slots x c.elements.now work.old × Sited x c.elements.now work.old site }
+    requires lowest_value { lowest ≡ lowest_of (measure (points_of site.vertices points.now)) (about c.elements.now work.old site.area site.about) }
+    ensures result_value { best_in result ≡ best_for c.entry.options c.entry.fields.now (regions_in c.entry.regions) (mesh_for x c.entry.masks.now c.entry.elements.now)
         (state_of x.vertices parameters.now points.now 0) (word_at work.old site.group) (members work.old site.group site.count) }
     ensures same_to { SameTo x.area work.old work.new }
 {
     let v = word(work, site.group);
-    let mask = word(masks, v as usize);
-    let start = start_from(s.options, parameters, work, x, v, site.about);
-    best_candidate(
-        s, fields, listed, regions, parameters, points, elements, work, site, start, mask, lowest,
-    )
+    let mask = word(c.masks, v as usize);
+    let start = start_from(c.options, parameters, work, x, v, site.about);
+    let view = View {
+        options: c.options,
+        parameters,
+        points,
+        elements: c.elements,
+        work,
+        site,
+    };
+    best_candidate(c.fields, c.regions, view, start, mask, lowest)
 }
 
 // Moves the group of `run` where its lowest score is below 0.15 and a candidate is better, and gives how many vertices have moved, `moved`
 // so far.
 fn smooth_group(
-    s: Settings,
-    fields: [Field; 8],
-    listed: bool,
-    regions: &[u32],
+    c: Input,
     parameters: &mut [f64],
     points: &mut [f64],
-    masks: &[u32],
-    elements: &[u32],
     work: &mut [u32],
     x: Index,
     run: Run,
     moved: usize,
 ) -> usize
-    requires ready { Ready x work.old × Rows x work.old (7 * run.first + 6) run.size × Slots x elements.now work.old }
+    requires ready { Ready x work.old × Rows x work.old (7 * run.first + 6) run.size × Slots x c.elements.now work.old }
     requires moved_le_first { (moved ≤ run.first) × (3 * x.vertices ≤ length parameters.old) × (3 * x.vertices ≤ length points.old) }
-    ensures turned { Turned x.vertices (smooth_group s.options (take s.count fields) (regions_of listed regions.now) (mesh_for x masks.now elements.now)
+    ensures turned { Turned x.vertices (smooth_group c.entry.options c.entry.fields.now (regions_in c.entry.regions) (mesh_for x c.entry.masks.now c.entry.elements.now)
         (state_of x.vertices parameters.old points.old moved) (members work.old (7 * run.first + 6) run.size))
         parameters.old points.old parameters.new points.new result }
     ensures same_to { SameTo x.area work.old work.new × (result ≤ moved + run.size) }
@@ -150,52 +153,40 @@ fn smooth_group(
     let size = run.size;
     let group = ROW_WORDS * run.first + RANK_WORDS;
     let site = list_about(work, x, group, size);
-    let lowest = lowest_about(points, elements, work, site);
+    let lowest = lowest_about(points, c.elements, work, site);
     if !(lowest < 0.15) {
         return moved;
     }
-    let best = best_for(
-        s, fields, listed, regions, parameters, points, masks, elements, work, x, site, lowest,
-    );
-    if !best.found {
+    let best = best_for(c, parameters, points, work, x, site, lowest);
+    let Some(p) = best.point else {
         return moved;
-    }
-    let p = best.point;
-    move_group(s.options, parameters, points, work, site, p);
+    };
+    move_group(c.options, parameters, points, work, site, p);
     moved + size
 }
 
 // Smooths every group in rank order, and gives how many vertices have moved.
 fn smooth_groups(
-    s: Settings,
-    fields: [Field; 8],
-    listed: bool,
-    regions: &[u32],
+    c: Input,
     parameters: &mut [f64],
     points: &mut [f64],
-    masks: &[u32],
-    elements: &[u32],
     work: &mut [u32],
     x: Index,
 ) -> usize
-    requires ready { Ready x work.old × Slots x elements.now work.old × Grouped s.options x parameters.old work.old }
+    requires ready { Ready x work.old × Slots x c.elements.now work.old × Grouped c.options x parameters.old work.old }
     requires vertices_in_bounds { (3 * x.vertices ≤ length parameters.old) × (3 * x.vertices ≤ length points.old) }
-    ensures { Turned x.vertices (smooth_groups s.options (take s.count fields) (regions_of listed regions.now) (mesh_for x masks.now elements.now)
-        (state_of x.vertices parameters.old points.old 0) (groups s.options (points_of x.vertices parameters.old)))
+    ensures { Turned x.vertices (smooth_groups c.entry.options c.entry.fields.now (regions_in c.entry.regions) (mesh_for x c.entry.masks.now c.entry.elements.now)
+        (state_of x.vertices parameters.old points.old 0) (groups c.entry.options (points_of x.vertices parameters.old)))
         parameters.old points.old parameters.new points.new result }
 {
     let nv = x.vertices as usize;
     let mut first = 0;
     let mut moved = 0;
+    // Kept by hand: a turn goes over a run of rows, so the step is not one.
     while first < nv {
         let size = run_length(work, first, nv, ROW_WORDS, RANK_WORDS);
-        let run = Run {
-            first: first,
-            size: size,
-        };
-        moved = smooth_group(
-            s, fields, listed, regions, parameters, points, masks, elements, work, x, run, moved,
-        );
+        let run = Run { first, size };
+        moved = smooth_group(c, parameters, points, work, x, run, moved);
         first += size;
     }
     moved
@@ -232,30 +223,31 @@ fn used_words(sizes: Sizes) -> usize
 
 // Smooths every group, in the words that are used, and gives how many vertices have moved. The words are all zeros afterwards.
 fn smooth_in(
-    s: Settings,
-    fields: [Field; 8],
-    listed: bool,
-    regions: &[u32],
+    c: Input,
+    sizes: Sizes,
     parameters: &mut [f64],
     points: &mut [f64],
-    masks: &[u32],
-    elements: &[u32],
     work: &mut [u32],
 ) -> usize
-    requires vertices_bound { (s.sizes.vertices ≤ 4096) × (s.sizes.elements ≤ 16384) × (used_words s.sizes.vertices s.sizes.elements ≤ length work.old) }
-    requires elements_in_bounds { (4 * s.sizes.elements ≤ length elements.now) × (every (well_numbered s.sizes.vertices) (tets s.sizes.elements elements.now) ≡ true) }
-    requires vertices_in_bounds { (3 * s.sizes.vertices ≤ length parameters.old) × (3 * s.sizes.vertices ≤ length points.old) }
-    ensures turned { Turned s.sizes.vertices (smooth_groups s.options (take s.count fields) (regions_of listed regions.now) (mesh_read s.sizes.vertices s.sizes.elements masks.now elements.now)
-        (state_of s.sizes.vertices parameters.old points.old 0) (groups s.options (points_of s.sizes.vertices parameters.old)))
+    requires vertices_bound { (sizes.vertices ≤ 4096) × (sizes.elements ≤ 16384) × (used_words sizes.vertices sizes.elements ≤ length work.old) }
+    requires elements_in_bounds { (4 * sizes.elements ≤ length c.elements.now) × (every (well_numbered sizes.vertices) (tets sizes.elements c.elements.now) ≡ true) }
+    requires vertices_in_bounds { (3 * sizes.vertices ≤ length parameters.old) × (3 * sizes.vertices ≤ length points.old) }
+    ensures turned { Turned sizes.vertices (smooth_groups c.entry.options c.entry.fields.now (regions_in c.entry.regions) (mesh_read sizes.vertices sizes.elements c.entry.masks.now c.entry.elements.now)
+        (state_of sizes.vertices parameters.old points.old 0) (groups c.entry.options (points_of sizes.vertices parameters.old)))
         parameters.old points.old parameters.new points.new result }
     ensures work_after { work.new ≡ zero_words (length work.old) }
 {
-    let x = prepare(s.options, s.sizes, parameters, elements, work);
-    let moved = smooth_groups(
-        s, fields, listed, regions, parameters, points, masks, elements, work, x,
-    );
+    let x = prepare(c.options, sizes, parameters, c.elements, work);
+    let moved = smooth_groups(c, parameters, points, work, x);
     clear(work);
     moved
+}
+
+// The list of regions, if there is one.
+fn given<'a>(listed: bool, regions: &'a [u32]) -> Option<&'a [u32]>
+    ensures { regions_in result ≡ regions_of listed regions.now }
+{
+    if listed { Some(regions) } else { None }
 }
 
 // Moves vertices of badly shaped elements; the count is that of the vertices moved. Both work slices may hold anything before, and are all
@@ -272,15 +264,15 @@ pub fn smooth(
     surface: &[u32],
     work: &mut [u32],
     floats: &mut [f64],
-) -> Answer
+) -> Result<Made, Refusal>
     ensures fact { ◌≡◌ {A = ℕ × List ℕ × State}
-        (number_of result, values_of result, held s.sizes parameters.new points.new masks.now elements.now surface.now)
+        (number_of (answer_of result), values_of (answer_of result), held s.sizes parameters.new points.new masks.now elements.now surface.now)
         (in_numbers (step (call_of Pass.smooth s fields (regions_of listed regions.now) work.old floats.old)
         (held s.sizes parameters.old points.old masks.now elements.now surface.now))) }
     ensures work_after { work.new ≡ zero_words (length work.old) }
     ensures floats_after { floats.new ≡ zero_floats (length floats.old) }
 {
-    let number = intake(
+    intake(
         s,
         fields,
         parameters,
@@ -290,25 +282,19 @@ pub fn smooth(
         surface.len(),
         work,
         floats,
-    );
-    if number != 0 {
-        return Answer::Refused(number);
-    }
+    )?;
     let sizes = s.sizes;
-    let e = used_words(sizes);
-    let moved = smooth_in(
-        s,
-        fields,
-        listed,
-        regions,
-        parameters,
-        points,
+    let input = Input {
+        options: s.options,
+        fields: counted(&fields, s.count as usize),
+        regions: given(listed, regions),
         masks,
         elements,
-        &mut work[0..e],
-    );
-    Answer::Done {
+    };
+    let e = used_words(sizes);
+    let moved = smooth_in(input, sizes, parameters, points, &mut work[0..e]);
+    Ok(Made {
         count: moved,
-        sizes: sizes,
-    }
+        sizes,
+    })
 }

@@ -11,6 +11,8 @@ pub mod Passed
 pub mod Lines
 pub mod Prefix
 pub mod Loops
+pub mod Chains
+pub mod Errors
 pub mod Example
 pub mod Decimal
 pub mod Passes

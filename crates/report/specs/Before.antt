@@ -10,8 +10,8 @@ use Rattle.mesh.specs.declared.element.Tet.{Tet}
 use Rattle.mesh.specs.Words.{point_at}
 use Rattle.mesh.specs.Complex.{keep}
 use Rattle.repair.specs.Step.{State, mesh_of}
-use Rattle.report.specs.declared.run.Ran.{Ran}
-use Rattle.report.specs.declared.run.Ran.TheVariants.{Finished, Stopped}
+use Rattle.report.specs.Run.{Ran}
+use Rattle.report.specs.Run.{Finished, Stopped}
 use Rattle.report.specs.Block.{Reading, refused, read, reading}
 use Rattle.report.specs.Run.{Setting, run_passes}
 use Rattle.report.specs.Table.{Table, refused_text, table_text, inside_line, inside_count}

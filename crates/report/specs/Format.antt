@@ -1,6 +1,8 @@
 -- The numbers of block files, once each, with the words of document 01 ("Block") that give them, and `plot`'s limits. src/format.rt has the
 -- same names for the code. A size is a number of words, a place the number of a word in its block. Definitions only.
 use Rattle.std.specs.Prelude.{ℕ, cond, ◌==◌}
+use Rattle.report.specs.declared.format.BlockKind.{BlockKind}
+use Rattle.report.specs.declared.format.BlockKind.TheVariants.{Header, Vertices, Elements}
 
 -- ---- a block
 
@@ -23,6 +25,12 @@ vertex_kind = 2
 -- ".. 3 elements)"
 abbrev pub element_kind : ℕ
 element_kind = 3
+
+-- the same, of a kind by itself
+abbrev pub block_kind_number : BlockKind → ℕ
+block_kind_number Header = header_kind
+block_kind_number Vertices = vertex_kind
+block_kind_number Elements = element_kind
 
 -- "words 3 to 126 records"
 abbrev pub first_record : ℕ

@@ -9,8 +9,8 @@ use Rattle.mesh.specs.Complex.{alternating}
 use Rattle.mesh.specs.Element.{tets, vertices_of}
 use Rattle.mesh.specs.Surface.{triples_of, answer_of, surface_words}
 use Rattle.repair.specs.Step.{State, over, mesh_of}
-use Rattle.report.specs.declared.run.Ran.{Ran}
-use Rattle.report.specs.declared.run.Ran.TheVariants.{Finished, Stopped}
+use Rattle.report.specs.Run.{Ran}
+use Rattle.report.specs.Run.{Finished, Stopped}
 use Rattle.report.specs.Format.{most_vertices, most_elements}
 use Rattle.report.specs.Block.{Plot, Reading, refused, read, reading}
 use Rattle.report.specs.Run.{Setting, run_passes}

@@ -6,11 +6,9 @@ use Rattle.geometry.specs.declared.bounds.Options.{Options}
 use Rattle.geometry.specs.declared.field.Field.{Field}
 use Rattle.mesh.specs.declared.intake.Settings.{Settings}
 use Rattle.mesh.specs.declared.intake.Sizes.{Sizes}
-use Rattle.repair.specs.declared.answer.Answer.{Answer}
-use Rattle.repair.specs.declared.answer.Answer.TheVariants.{Done, Refused}
+use Rattle.repair.specs.Step.{Answer}
+use Rattle.repair.specs.Step.{Done, Refused}
 use Rattle.repair.specs.Step.{State, Pass, Call, step}
-use Rattle.report.specs.declared.run.Ran.{Ran}
-use Rattle.report.specs.declared.run.Ran.TheVariants.{Finished, Stopped}
 
 -- what the three calls share: the box, the fields and the lengths of the work slices
 pub record Setting : Type 0 where
@@ -35,6 +33,11 @@ call_in g pass = record {
 -- what the calls share that are lent these slices of work
 abbrev pub setting_for : Settings → List Field → List ℕ → List Float → Setting
 setting_for s fields work floats = record { options = s.options; fields = fields; count = s.count; words = length work; floats = length floats }
+
+-- what a run gave, with the sizes that the mesh has after it: the three counts, or the number of the pass that refused
+pub data Ran : Type 0 where
+  Finished : ℕ → ℕ → ℕ → Sizes → Ran
+  Stopped : ℕ → Sizes → Ran
 
 -- after a pass's answer and the buffers that it left: what comes next, with its count, or the end, with its number
 abbrev pub after : Answer → State → (ℕ → State → Ran × State) → Ran × State

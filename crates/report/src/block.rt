@@ -1,22 +1,16 @@
-// The blocks of a file: the numbers 1, 2, 3, 30 and 10.
+// The blocks of a file: what is wrong with them, in the order of the tests.
 ghost use Rattle.std.specs.Prelude.{◌≡◌, ◌+◌, ◌-◌, ◌*◌, ◌<◌, ◌≤◌};
-ghost use Rattle.report.specs.Format.{elements_a_block, most_vertices, most_elements};
+ghost use Rattle.report.specs.Format.{block_kind_number, elements_a_block, most_vertices, most_elements};
+ghost use Rattle.report.specs.Error.{number_of};
 ghost use Rattle.report.specs.Block.{adds_to_zero, is_expected, block_number, vertex_blocks, element_blocks, kind_of, count_of, end_number, blocks_from, body_number, file_number};
 
 use crate::bytes::{sum, word};
+use crate::error::FileError;
 use crate::format::{
-    BYTES_A_BLOCK, ELEMENT_KIND, ELEMENTS_A_BLOCK, ELEMENTS_PLACE, HEADER_KIND, MOST_ELEMENTS,
-    MOST_VERTICES, VERTEX_KIND, VERTICES_A_BLOCK, VERTICES_PLACE, WORDS_A_BLOCK,
+    BYTES_A_BLOCK, BlockKind, ELEMENTS_A_BLOCK, ELEMENTS_PLACE, MOST_ELEMENTS, MOST_VERTICES,
+    VERTICES_A_BLOCK, VERTICES_PLACE, WORDS_A_BLOCK,
 };
 use crate::spare::spare_zero;
-use mesh::words::least;
-
-// n - m, and 0 where m is above n.
-fn minus(n: usize, m: usize) -> usize
-    ensures { result ≡ n - m }
-{
-    if m <= n { n - m } else { 0 }
-}
 
 // Whether the words of the block k add to 0 modulo 2^32.
 fn adds_to_zero(s: &[u8], k: usize) -> bool
@@ -27,37 +21,33 @@ fn adds_to_zero(s: &[u8], k: usize) -> bool
 }
 
 // Whether the block k has this kind, its number and this count.
-fn is_expected(s: &[u8], k: usize, kind: u32, count: usize) -> bool
+fn is_expected(s: &[u8], k: usize, kind: BlockKind, count: usize) -> bool
     requires { k < 1000 }
-    ensures { result ≡ is_expected s.now k kind count }
+    ensures { result ≡ is_expected s.now k (block_kind_number kind) count }
 {
-    if word(s, WORDS_A_BLOCK * k) != kind {
-        return false;
-    }
-    if word(s, WORDS_A_BLOCK * k + 1) as usize != k {
-        return false;
-    }
-    word(s, WORDS_A_BLOCK * k + 2) as usize == count
+    word(s, WORDS_A_BLOCK * k) == u32::from(kind)
+        && word(s, WORDS_A_BLOCK * k + 1) as usize == k
+        && word(s, WORDS_A_BLOCK * k + 2) as usize == count
 }
 
-// 1, 2, 3 or 30 for the block k, and else 0.
-pub(crate) fn block_number(s: &[u8], k: usize, kind: u32, count: usize) -> u32
+// Tests the block k, where this kind and count are expected.
+fn check_block(s: &[u8], k: usize, kind: BlockKind, count: usize) -> Result<(), FileError>
     requires { (k < 1000) × (count < 1000) }
-    ensures { result ≡ block_number s.now k kind count }
+    ensures { number_of result ≡ block_number s.now k (block_kind_number kind) count }
 {
     if s.len() < BYTES_A_BLOCK * (k + 1) {
-        return 1;
+        return Err(FileError::WrongLength);
     }
     if !adds_to_zero(s, k) {
-        return 2;
+        return Err(FileError::WrongSum);
     }
     if !is_expected(s, k, kind, count) {
-        return 3;
+        return Err(FileError::UnexpectedBlock);
     }
     if !spare_zero(s, k, kind, count) {
-        return 30;
+        return Err(FileError::SpareWord);
     }
-    0
+    Ok(())
 }
 
 // How many blocks n vertices take.
@@ -77,14 +67,14 @@ pub(crate) fn element_blocks(n: usize) -> usize
 }
 
 // The kind of the block k, from 1 on.
-fn kind_of(vertices: usize, k: usize) -> u32
+fn kind_of(vertices: usize, k: usize) -> BlockKind
     requires { vertices ≤ most_vertices }
-    ensures { result ≡ kind_of vertices k }
+    ensures { block_kind_number result ≡ kind_of vertices k }
 {
     if k <= vertex_blocks(vertices) {
-        VERTEX_KIND
+        BlockKind::Vertices
     } else {
-        ELEMENT_KIND
+        BlockKind::Elements
     }
 }
 
@@ -94,61 +84,56 @@ fn count_of(vertices: usize, elements: usize, k: usize) -> usize
     ensures { (result ≡ count_of vertices elements k) × (result ≤ elements_a_block) }
 {
     let b = vertex_blocks(vertices);
-    let before = minus(k, 1);
+    let before = k.saturating_sub(1);
     if k <= b {
-        return least(VERTICES_A_BLOCK, minus(vertices, VERTICES_A_BLOCK * before));
+        return vertices
+            .saturating_sub(VERTICES_A_BLOCK * before)
+            .min(VERTICES_A_BLOCK);
     }
-    least(
-        ELEMENTS_A_BLOCK,
-        minus(elements, ELEMENTS_A_BLOCK * minus(before, b)),
-    )
+    elements
+        .saturating_sub(ELEMENTS_A_BLOCK * before.saturating_sub(b))
+        .min(ELEMENTS_A_BLOCK)
 }
 
-// 1 for bytes from the block k on, and else 0.
-fn end_number(s: &[u8], k: usize) -> u32
+// Tests that no bytes follow the block k.
+fn check_end(s: &[u8], k: usize) -> Result<(), FileError>
     requires { k < 1000 }
-    ensures { result ≡ end_number s.now k }
+    ensures { number_of result ≡ end_number s.now (k + 1) }
 {
-    if BYTES_A_BLOCK * k < s.len() { 1 } else { 0 }
+    if BYTES_A_BLOCK * (k + 1) < s.len() {
+        Err(FileError::WrongLength)
+    } else {
+        Ok(())
+    }
 }
 
-// 1, 2, 3 or 30 for the block k behind the header, and else 0.
-fn next_number(s: &[u8], vertices: usize, elements: usize, k: usize) -> u32
+// Tests the block k behind the header.
+fn check_next(s: &[u8], vertices: usize, elements: usize, k: usize) -> Result<(), FileError>
     requires { (vertices ≤ most_vertices) × (k < 1000) }
-    ensures { result ≡ block_number s.now k (kind_of vertices k) (count_of vertices elements k) }
+    ensures { number_of result ≡ block_number s.now k (kind_of vertices k) (count_of vertices elements k) }
 {
-    block_number(s, k, kind_of(vertices, k), count_of(vertices, elements, k))
+    check_block(s, k, kind_of(vertices, k), count_of(vertices, elements, k))
 }
 
-// The first number of n blocks from the block 1 on and of the end, and else 0.
-fn blocks_number(s: &[u8], vertices: usize, elements: usize, n: usize) -> u32
+// Tests n blocks from the block 1 on, and then the end.
+fn check_blocks(s: &[u8], vertices: usize, elements: usize, n: usize) -> Result<(), FileError>
     requires { (vertices ≤ most_vertices) × (n ≤ 4) }
-    ensures { result ≡ blocks_from s.now vertices elements n 1 }
+    ensures { number_of result ≡ blocks_from s.now vertices elements n 1 }
 {
-    let mut k = 1;
-    let mut left = n;
-    while 0 < left {
-        let number = next_number(s, vertices, elements, k);
-        if number != 0 {
-            return number;
-        }
-        k += 1;
-        left -= 1;
+    for k in 1..n + 1 {
+        check_next(s, vertices, elements, k)?;
     }
-    end_number(s, k)
+    check_end(s, n)
 }
 
-// 10 for counts over the limits, then the numbers of the blocks behind the header.
-fn body_number(s: &[u8], vertices: usize, elements: usize) -> u32
-    ensures { result ≡ body_number s.now vertices elements }
+// Tests the counts against the limits, and then the blocks behind the header.
+fn check_body(s: &[u8], vertices: usize, elements: usize) -> Result<(), FileError>
+    ensures { number_of result ≡ body_number s.now vertices elements }
 {
-    if MOST_VERTICES < vertices {
-        return 10;
+    if MOST_VERTICES < vertices || MOST_ELEMENTS < elements {
+        return Err(FileError::TooLarge);
     }
-    if MOST_ELEMENTS < elements {
-        return 10;
-    }
-    blocks_number(
+    check_blocks(
         s,
         vertices,
         elements,
@@ -156,15 +141,12 @@ fn body_number(s: &[u8], vertices: usize, elements: usize) -> u32
     )
 }
 
-// 1, 2, 3, 30 or 10 for the whole file, and else 0.
-pub fn file_number(s: &[u8]) -> u32
-    ensures { result ≡ file_number s.now }
+// Tests the blocks of the whole file.
+pub(crate) fn check_file(s: &[u8]) -> Result<(), FileError>
+    ensures { number_of result ≡ file_number s.now }
 {
-    let number = block_number(s, 0, HEADER_KIND, 1);
-    if number != 0 {
-        return number;
-    }
-    body_number(
+    check_block(s, 0, BlockKind::Header, 1)?;
+    check_body(
         s,
         word(s, VERTICES_PLACE) as usize,
         word(s, ELEMENTS_PLACE) as usize,

@@ -52,10 +52,8 @@ pub(crate) fn sum(s: &[u8], i: usize) -> u32
     ensures { result ≡ sum_of s.now i words_a_block % 2 ^ 32 }
 {
     let mut total: u32 = 0;
-    let mut n = 0;
-    while n < WORDS_A_BLOCK {
-        total = std::num::wrapping_add_u32(total, word(s, i + n));
-        n += 1;
+    for n in 0..WORDS_A_BLOCK {
+        total = total.wrapping_add(word(s, i + n));
     }
     total
 }

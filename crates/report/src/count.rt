@@ -1,5 +1,5 @@
 // How many elements are bad, and how many are inside a field.
-ghost use Rattle.std.specs.Prelude.{◌≡◌, ◌+◌, ◌<◌, ◌≤◌, if◌then◌else◌};
+ghost use Rattle.std.specs.Prelude.{◌≡◌, ◌<◌, ◌≤◌};
 ghost use Rattle.mesh.specs.Words.{points_of};
 ghost use Rattle.mesh.specs.Element.{tets};
 ghost use Rattle.report.specs.Table.{mean, place_of, is_inside, inside_count, low_count};
@@ -40,27 +40,14 @@ fn is_inside(f: Field, points: &[f64], nv: usize, t: Tet) -> bool
     value(f, p) <= 0.0
 }
 
-// k, and one more where the test holds.
-fn add_if(k: usize, test: bool) -> usize
-    requires { k < 1000000 }
-    ensures { (result ≡ (if test then k + 1 else k)) × (result ≤ k + 1) }
-{
-    if test { k + 1 } else { k }
-}
-
 // How many of n elements are inside a field.
 pub(crate) fn inside_count(f: Field, points: &[f64], nv: usize, elements: &[u32], n: usize) -> usize
     requires { n < 1000000 }
     ensures { (result ≡ inside_count (points_of nv points.now) (tets n elements.now) f) × (result ≤ n) }
 {
-    let mut k = 0;
-    let mut i = 0;
-    while i < n {
-        let t = tet_at(elements, i);
-        k = add_if(k, is_inside(f, points, nv, t));
-        i += 1;
-    }
-    k
+    (0..n)
+        .filter(|&i| is_inside(f, points, nv, tet_at(elements, i)))
+        .count()
 }
 
 // How many of n elements are bad.
@@ -68,12 +55,7 @@ pub(crate) fn low_count(points: &[f64], nv: usize, elements: &[u32], n: usize) -
     requires { n < 1000000 }
     ensures { (result ≡ low_count (points_of nv points.now) (tets n elements.now)) × (result ≤ n) }
 {
-    let mut k = 0;
-    let mut i = 0;
-    while i < n {
-        let t = tet_at(elements, i);
-        k = add_if(k, is_bad_element(points, nv, t));
-        i += 1;
-    }
-    k
+    (0..n)
+        .filter(|&i| is_bad_element(points, nv, tet_at(elements, i)))
+        .count()
 }

@@ -1,16 +1,32 @@
 // The numbers of block files, once each, and `plot`'s limits: specs/Format.antt has the sentences. A size is a number of words, a place the
 // number of a word in its block.
+ghost use Rattle.std.specs.Prelude.{◌≡◌};
+ghost use Rattle.report.specs.Format.{block_kind_number};
+
+// The kinds of blocks.
+#[derive(Clone, Copy, PartialEq, Eq, Debug)]
+pub(crate) enum BlockKind {
+    Header,
+    Vertices,
+    Elements,
+}
+
+impl From<BlockKind> for u32 {
+    ghost from_gives = { λ kind n. n ≡ block_kind_number kind };
+
+    fn from(kind: BlockKind) -> u32 {
+        match kind {
+            BlockKind::Header => 1,
+            BlockKind::Vertices => 2,
+            BlockKind::Elements => 3,
+        }
+    }
+}
 
 // A block.
 pub(crate) const WORDS_A_BLOCK: usize = 128;
 
 pub(crate) const BYTES_A_BLOCK: usize = 512;
-
-pub(crate) const HEADER_KIND: u32 = 1;
-
-pub(crate) const VERTEX_KIND: u32 = 2;
-
-pub(crate) const ELEMENT_KIND: u32 = 3;
 
 pub(crate) const FIRST_RECORD: usize = 3;
 
@@ -48,14 +64,8 @@ pub(crate) const FIELD_SIZE: usize = 9;
 
 pub(crate) const HEADER_SIZE: usize = 92;
 
-// The kinds of fields.
-pub(crate) const LEVEL_KIND: u32 = 0;
-
+// A level's kind and c.
 pub(crate) const LEVEL_SIZE: usize = 3;
-
-pub(crate) const PLANE_KIND: u32 = 1;
-
-pub(crate) const BALL_KIND: u32 = 2;
 
 // The limits of `plot`.
 pub(crate) const MOST_VERTICES: usize = 24;

@@ -1,16 +1,18 @@
 // The header's record: the box and what stands beside it, and the fields.
 ghost use Rattle.std.specs.Prelude.{◌≡◌, ◌<◌};
 ghost use Rattle.report.specs.Format.{field_places};
+ghost use Rattle.report.specs.Error.{number_of};
 ghost use Rattle.report.specs.Block.{header_options, field_from, field_at, header_fields, kinds_number, reading_number};
 
-use crate::block::file_number;
+use crate::block::check_file;
 use crate::bytes::{float, point, word};
+use crate::error::FileError;
 use crate::format::{
-    BALL_KIND, BOUNDS_PLACE, CELLS_PLACE, COUNT_PLACE, FIELD_PLACES, FIELD_SIZE, FIRST_FIELD,
-    LEVEL_KIND, PASSES_PLACE, PERIODIC_PLACE, PLANE_KIND,
+    BOUNDS_PLACE, CELLS_PLACE, COUNT_PLACE, FIELD_PLACES, FIELD_SIZE, FIRST_FIELD, PASSES_PLACE,
+    PERIODIC_PLACE,
 };
 use geometry::bounds::{Bounds, Cells, Options};
-use geometry::field::Field;
+use geometry::field::{Field, Kind};
 use geometry::point::Point;
 
 // Lo and hi per direction: x lo, x hi, y, z.
@@ -47,18 +49,16 @@ pub fn options(s: &[u8]) -> Options
     }
 }
 
-// The field of a kind, its numbers from the word i on.
+// The field of a kind, its numbers from the word i on. A file with an unknown kind is not read.
 fn field_from(s: &[u8], kind: u32, i: usize) -> Field
     requires { i < 1000 }
     ensures { result ≡ field_from s.now kind i }
 {
-    if kind == LEVEL_KIND {
-        return Field::Level(float(s, i));
+    match Kind::try_from(kind).unwrap_or(Kind::Ball) {
+        Kind::Level => Field::Level(float(s, i)),
+        Kind::Plane => Field::Plane(point(s, i), float(s, i + 6)),
+        Kind::Ball => Field::Ball(point(s, i), float(s, i + 6)),
     }
-    if kind == PLANE_KIND {
-        return Field::Plane(point(s, i), float(s, i + 6));
-    }
-    Field::Ball(point(s, i), float(s, i + 6))
 }
 
 // The field j, and a level 0 for an unused place.
@@ -92,31 +92,26 @@ pub fn fields(s: &[u8]) -> [Field; 8]
     ]
 }
 
-// 11 for more fields than places or an unknown kind, and else 0.
-fn kinds_number(s: &[u8]) -> u32
-    ensures { result ≡ kinds_number s.now }
+// Tests that there are no more fields than places, and that each kind is known.
+fn check_kinds(s: &[u8]) -> Result<(), FileError>
+    ensures { number_of result ≡ kinds_number s.now }
 {
     let n = word(s, COUNT_PLACE) as usize;
     if FIELD_PLACES < n {
-        return 11;
+        return Err(FileError::UnknownField);
     }
-    let mut j = 0;
-    while j < n {
-        if BALL_KIND < word(s, FIRST_FIELD + FIELD_SIZE * j) {
-            return 11;
+    for j in 0..n {
+        if Kind::try_from(word(s, FIRST_FIELD + FIELD_SIZE * j)).is_err() {
+            return Err(FileError::UnknownField);
         }
-        j += 1;
     }
-    0
+    Ok(())
 }
 
-// The number of a file that is not read, and 0 for one that is.
-pub fn reading_number(s: &[u8]) -> u32
-    ensures { result ≡ reading_number s.now }
+// Tests whether a file is read.
+pub(crate) fn check(s: &[u8]) -> Result<(), FileError>
+    ensures { number_of result ≡ reading_number s.now }
 {
-    let number = file_number(s);
-    if number != 0 {
-        return number;
-    }
-    kinds_number(s)
+    check_file(s)?;
+    check_kinds(s)
 }

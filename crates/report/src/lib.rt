@@ -4,6 +4,7 @@
 mod block;
 mod bytes;
 mod count;
+mod error;
 mod format;
 mod header;
 mod print;

@@ -5,11 +5,12 @@ ghost use Rattle.mesh.specs.inside.Complex.{Proper};
 ghost use Rattle.mesh.specs.Element.{tets, vertices_of};
 ghost use Rattle.mesh.specs.inside.Euler.{counts_of};
 ghost use Rattle.report.specs.Table.{table_text};
+ghost use Rattle.report.specs.Ran.{ran_of};
 ghost use Rattle.report.specs.Run.{sizes_left};
 ghost use Rattle.report.specs.Report.{table_of, printed};
 ghost use Rattle.report.specs.inside.Written.{Written, Roomy, Ready};
 
-use crate::run::Ran;
+use crate::run::{Finished, Stopped};
 use crate::table::table_text;
 use crate::text::refused_text;
 use geometry::field::Field;
@@ -65,35 +66,30 @@ fn print_table(
 // Writes the text of a run.
 pub(crate) fn print_run(
     out: &mut [u8],
-    ran: Ran,
+    ran: Result<Finished, Stopped>,
     count: u32,
     fields: [Field; 8],
     points: &[f64],
     elements: &[u32],
     work: &mut [u32],
 ) -> usize
-    requires { Roomy count (length elements.now) (length work.old) × Ready ran elements.now }
-    ensures { Written out.old out.new 0 result (printed (take count fields) ran
-        (points_of (sizes_left ran).vertices points.now) (tets (sizes_left ran).elements elements.now)) × (result ≤ 50000) }
+    requires { Roomy count (length elements.now) (length work.old) × Ready (ran_of ran) elements.now }
+    ensures { Written out.old out.new 0 result (printed (take count fields) (ran_of ran)
+        (points_of (sizes_left (ran_of ran)).vertices points.now) (tets (sizes_left (ran_of ran)).elements elements.now)) × (result ≤ 50000) }
 {
     match ran {
-        Ran::Finished {
-            collapsed,
-            moved,
-            reconnected,
-            sizes,
-        } => print_table(
+        Ok(f) => print_table(
             out,
-            collapsed,
-            moved,
-            reconnected,
-            sizes,
+            f.collapsed,
+            f.moved,
+            f.reconnected,
+            f.sizes,
             count,
             fields,
             points,
             elements,
             work,
         ),
-        Ran::Stopped { number, sizes: _ } => refused_text(out, number as usize),
+        Err(stopped) => refused_text(out, u32::from(stopped.refusal) as usize),
     }
 }

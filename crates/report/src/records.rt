@@ -76,10 +76,8 @@ pub(crate) fn read_parameters(s: &[u8], n: usize, out: &mut [f64])
     requires { (n ≤ most_vertices) × (3 * n ≤ length out.old) }
     ensures { out.new ≡ listed (parameter_row s.now) n ++ drop (3 * n) out.old }
 {
-    let mut v = 0;
-    while v < n {
+    for v in 0..n {
         put_parameters(s, v, out);
-        v += 1;
     }
 }
 
@@ -88,10 +86,8 @@ pub(crate) fn read_points(s: &[u8], n: usize, out: &mut [f64])
     requires { (n ≤ most_vertices) × (3 * n ≤ length out.old) }
     ensures { out.new ≡ listed (point_row s.now) n ++ drop (3 * n) out.old }
 {
-    let mut v = 0;
-    while v < n {
+    for v in 0..n {
         put_point(s, v, out);
-        v += 1;
     }
 }
 
@@ -100,10 +96,8 @@ pub(crate) fn read_masks(s: &[u8], n: usize, out: &mut [u32])
     requires { (n ≤ most_vertices) × (n ≤ length out.old) }
     ensures { out.new ≡ listed (mask_row s.now) n ++ drop n out.old }
 {
-    let mut v = 0;
-    while v < n {
+    for v in 0..n {
         put_mask(s, v, out);
-        v += 1;
     }
 }
 
@@ -112,9 +106,7 @@ pub(crate) fn read_elements(s: &[u8], blocks: usize, n: usize, out: &mut [u32])
     requires { (blocks ≤ 4) × (n ≤ most_elements) × (4 * n ≤ length out.old) }
     ensures { out.new ≡ listed (element_row s.now blocks) n ++ drop (4 * n) out.old }
 {
-    let mut e = 0;
-    while e < n {
+    for e in 0..n {
         put_element(s, blocks, e, out);
-        e += 1;
     }
 }

@@ -12,12 +12,12 @@ ghost use Rattle.report.specs.inside.Written.{Written, PlotRoom};
 use crate::block::vertex_blocks;
 use crate::bytes::word;
 use crate::format::{COUNT_PLACE, ELEMENTS_PLACE, MOST_ELEMENTS, MOST_VERTICES, VERTICES_PLACE};
-use crate::header::{fields, options, reading_number};
+use crate::header::{check, fields, options};
 use crate::print::print_run;
 use crate::records::{read_elements, read_masks, read_parameters, read_points};
 use crate::run::run_passes;
 use crate::text::refused_text;
-use mesh::boundary::{Outcome, boundary};
+use mesh::boundary::boundary;
 use mesh::intake::{Settings, Sizes};
 
 // The lengths of the passes' buffers: specs/Report.antt says what they are for.
@@ -41,11 +41,7 @@ fn put_surface(elements: &[u32], n: usize, surface: &mut [u32], work: &mut [u32]
     ensures { (result ≡ triples_of (answer_of (tets n elements.now)))
         × (surface.new ≡ over (surface_words (tets n elements.now)) surface.old) }
 {
-    let found = boundary(elements, n, surface, work);
-    match found {
-        Outcome::Surface(c) => c,
-        Outcome::Refused(_) => 0,
-    }
+    boundary(elements, n, surface, work).unwrap_or(0)
 }
 
 // Puts the vertices and elements of a file that is read, and their surface, to the front of the passes' buffers.
@@ -124,9 +120,8 @@ pub fn report(input: &[u8], out: &mut [u8]) -> usize
     ensures out_after { out.new ≡ sets out.old 0 (report input.now) }
     ensures value { (result ≡ length (report input.now)) × (result ≤ 50000) }
 {
-    let number = reading_number(input);
-    if number != 0 {
-        return refused_text(out, number as usize);
+    match check(input) {
+        Ok(()) => plot_text(input, out),
+        Err(error) => refused_text(out, u32::from(error) as usize),
     }
-    plot_text(input, out)
 }

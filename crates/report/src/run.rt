@@ -2,28 +2,30 @@
 ghost use Rattle.std.specs.Prelude.{◌≡◌, length};
 ghost use Rattle.mesh.specs.Words.{zero_words, zero_floats};
 ghost use Rattle.repair.specs.Step.{State, held};
-ghost use Rattle.report.specs.Run.{setting_for, run_flip, run_smooth, run_passes, sizes_left};
+ghost use Rattle.report.specs.Ran.{ran_of};
+ghost use Rattle.report.specs.Run.{Ran, setting_for, run_flip, run_smooth, run_passes, sizes_left};
 
 use geometry::field::Field;
 use mesh::intake::{Settings, Sizes};
-use repair::answer::Answer;
+use mesh::refusal::Refusal;
 use repair::flip::flip;
 use repair::improve::improve;
 use repair::smooth::smooth;
 
-// What a run gave, with the sizes that the mesh has after it: the three counts, or the number of the pass that refused.
+// The counts of the three passes, and the sizes that the mesh has after them.
 #[derive(Clone, Copy)]
-pub(crate) enum Ran {
-    Finished {
-        collapsed: usize,
-        moved: usize,
-        reconnected: usize,
-        sizes: Sizes,
-    },
-    Stopped {
-        number: u32,
-        sizes: Sizes,
-    },
+pub(crate) struct Finished {
+    pub collapsed: usize,
+    pub moved: usize,
+    pub reconnected: usize,
+    pub sizes: Sizes,
+}
+
+// Why a pass ended the run, and the sizes that the mesh has then.
+#[derive(Clone, Copy)]
+pub(crate) struct Stopped {
+    pub refusal: Refusal,
+    pub sizes: Sizes,
 }
 
 // Runs `flip`, where the others gave these counts.
@@ -39,28 +41,25 @@ fn run_flip(
     surface: &mut [u32],
     work: &mut [u32],
     floats: &mut [f64],
-) -> Ran
-    ensures fact { ◌≡◌ {A = Ran × State} (result, held (sizes_left result) parameters.now points.now masks.now elements.new surface.new)
+) -> Result<Finished, Stopped>
+    ensures fact { ◌≡◌ {A = Ran × State} (ran_of result, held (sizes_left (ran_of result)) parameters.now points.now masks.now elements.new surface.new)
         (run_flip (setting_for s fields work.old floats.old) collapsed moved
         (held s.sizes parameters.now points.now masks.now elements.old surface.old)) }
     ensures work_after { work.new ≡ zero_words (length work.old) }
     ensures floats_after { floats.new ≡ zero_floats (length floats.old) }
 {
     let sizes = s.sizes;
-    let answer = flip(
+    let found = flip(
         s, fields, parameters, points, masks, elements, surface, work, floats,
     );
-    match answer {
-        Answer::Done {
-            count: reconnected,
-            sizes: z,
-        } => Ran::Finished {
+    match found {
+        Ok(made) => Ok(Finished {
             collapsed,
             moved,
-            reconnected,
-            sizes: z,
-        },
-        Answer::Refused(number) => Ran::Stopped { number, sizes },
+            reconnected: made.count,
+            sizes: made.sizes,
+        }),
+        Err(refusal) => Err(Stopped { refusal, sizes }),
     }
 }
 
@@ -76,15 +75,15 @@ fn run_smooth(
     surface: &mut [u32],
     work: &mut [u32],
     floats: &mut [f64],
-) -> Ran
-    ensures fact { ◌≡◌ {A = Ran × State} (result, held (sizes_left result) parameters.new points.new masks.now elements.new surface.new)
+) -> Result<Finished, Stopped>
+    ensures fact { ◌≡◌ {A = Ran × State} (ran_of result, held (sizes_left (ran_of result)) parameters.new points.new masks.now elements.new surface.new)
         (run_smooth (setting_for s fields work.old floats.old) collapsed
         (held s.sizes parameters.old points.old masks.now elements.old surface.old)) }
     ensures work_after { work.new ≡ zero_words (length work.old) }
     ensures floats_after { floats.new ≡ zero_floats (length floats.old) }
 {
     let sizes = s.sizes;
-    let answer = smooth(
+    let found = smooth(
         s,
         fields,
         false,
@@ -97,14 +96,12 @@ fn run_smooth(
         work,
         floats,
     );
-    match answer {
-        Answer::Done {
-            count: moved,
-            sizes: _,
-        } => run_flip(
-            collapsed, moved, s, fields, parameters, points, masks, elements, surface, work, floats,
+    match found {
+        Ok(made) => run_flip(
+            collapsed, made.count, s, fields, parameters, points, masks, elements, surface, work,
+            floats,
         ),
-        Answer::Refused(number) => Ran::Stopped { number, sizes },
+        Err(refusal) => Err(Stopped { refusal, sizes }),
     }
 }
 
@@ -119,33 +116,28 @@ pub(crate) fn run_passes(
     surface: &mut [u32],
     work: &mut [u32],
     floats: &mut [f64],
-) -> Ran
-    ensures fact { ◌≡◌ {A = Ran × State} (result, held (sizes_left result) parameters.new points.new masks.new elements.new surface.new)
+) -> Result<Finished, Stopped>
+    ensures fact { ◌≡◌ {A = Ran × State} (ran_of result, held (sizes_left (ran_of result)) parameters.new points.new masks.new elements.new surface.new)
         (run_passes (setting_for s fields work.old floats.old)
         (held s.sizes parameters.old points.old masks.old elements.old surface.old)) }
     ensures work_after { work.new ≡ zero_words (length work.old) }
     ensures floats_after { floats.new ≡ zero_floats (length floats.old) }
 {
     let sizes = s.sizes;
-    let options = s.options;
-    let answer = improve(
+    let found = improve(
         s, fields, parameters, points, masks, elements, surface, work, floats,
     );
-    match answer {
-        Answer::Done {
-            count: collapsed,
-            sizes: z,
-        } => {
+    match found {
+        Ok(made) => {
             let after = Settings {
-                sizes: z,
-                options,
-                count: s.count,
+                sizes: made.sizes,
+                ..s
             };
             run_smooth(
-                collapsed, after, fields, parameters, points, masks, elements, surface, work,
+                made.count, after, fields, parameters, points, masks, elements, surface, work,
                 floats,
             )
         }
-        Answer::Refused(number) => Ran::Stopped { number, sizes },
+        Err(refusal) => Err(Stopped { refusal, sizes }),
     }
 }

@@ -2,47 +2,39 @@
 ghost use Rattle.std.specs.Prelude.{◌≡◌, ◌-◌, ◌<◌, ◌≤◌};
 ghost use Rattle.mesh.specs.Words.{numbers};
 ghost use Rattle.mesh.specs.Tests.{every};
-ghost use Rattle.report.specs.Format.{header_size, record_size, field_places, field_size};
+ghost use Rattle.report.specs.Format.{block_kind_number, header_size, record_size, field_places, field_size};
 ghost use Rattle.report.specs.Block.{zeros_from, rest_zero, used_in, place_zero, spare_zero};
 
 use crate::bytes::word;
 use crate::format::{
-    COUNT_PLACE, ELEMENT_SIZE, FIELD_PLACES, FIELD_SIZE, FIRST_FIELD, FIRST_RECORD, HEADER_KIND,
-    HEADER_SIZE, LEVEL_KIND, LEVEL_SIZE, RECORD_ROOM, VERTEX_KIND, VERTEX_SIZE, WORDS_A_BLOCK,
+    BlockKind, COUNT_PLACE, ELEMENT_SIZE, FIELD_PLACES, FIELD_SIZE, FIRST_FIELD, FIRST_RECORD,
+    HEADER_SIZE, LEVEL_SIZE, RECORD_ROOM, VERTEX_SIZE, WORDS_A_BLOCK,
 };
+use geometry::field::Kind;
 
 // Whether the words from the word i to before the word `end` are zero.
 fn zeros_to(s: &[u8], i: usize, end: usize) -> bool
     requires { end < 900000 }
     ensures { result ≡ zeros_from s.now i (end - i) }
 {
-    let mut j = i;
-    while j < end {
-        if word(s, j) != 0 {
-            return false;
-        }
-        j += 1;
-    }
-    true
+    (i..end).all(|j| word(s, j) == 0)
 }
 
 // How many words a record of a block of this kind takes.
-fn record_size(kind: u32) -> usize
-    ensures { (result ≡ record_size kind) × (result ≤ header_size) }
+fn record_size(kind: BlockKind) -> usize
+    ensures { (result ≡ record_size (block_kind_number kind)) × (result ≤ header_size) }
 {
-    if kind == HEADER_KIND {
-        return HEADER_SIZE;
+    match kind {
+        BlockKind::Header => HEADER_SIZE,
+        BlockKind::Vertices => VERTEX_SIZE,
+        BlockKind::Elements => ELEMENT_SIZE,
     }
-    if kind == VERTEX_KIND {
-        return VERTEX_SIZE;
-    }
-    ELEMENT_SIZE
 }
 
 // Whether the words of the block k behind so many records of this kind are zero.
-fn rest_zero(s: &[u8], k: usize, kind: u32, count: usize) -> bool
+fn rest_zero(s: &[u8], k: usize, kind: BlockKind, count: usize) -> bool
     requires { (k < 1000) × (count < 1000) }
-    ensures { result ≡ rest_zero s.now k kind count }
+    ensures { result ≡ rest_zero s.now k (block_kind_number kind) count }
 {
     let first = WORDS_A_BLOCK * k + FIRST_RECORD;
     let used = record_size(kind) * count;
@@ -57,7 +49,7 @@ fn used_in(s: &[u8], j: usize) -> usize
     if word(s, COUNT_PLACE) as usize <= j {
         return 0;
     }
-    if word(s, FIRST_FIELD + FIELD_SIZE * j) == LEVEL_KIND {
+    if word(s, FIRST_FIELD + FIELD_SIZE * j) == u32::from(Kind::Level) {
         return LEVEL_SIZE;
     }
     FIELD_SIZE
@@ -76,26 +68,18 @@ fn place_zero(s: &[u8], j: usize) -> bool
 fn places_zero(s: &[u8]) -> bool
     ensures { result ≡ every (place_zero s.now) (numbers 0 field_places) }
 {
-    let mut j = 0;
-    while j < FIELD_PLACES {
-        if !place_zero(s, j) {
-            return false;
-        }
-        j += 1;
-    }
-    true
+    (0..FIELD_PLACES).all(|j| place_zero(s, j))
 }
 
 // Whether the spare words of the block k, where this kind and count are expected, are zero.
-pub(crate) fn spare_zero(s: &[u8], k: usize, kind: u32, count: usize) -> bool
+#[tactic(auto, unfolding(crate::specs::Block::spare_zero))]
+pub(crate) fn spare_zero(s: &[u8], k: usize, kind: BlockKind, count: usize) -> bool
     requires { (k < 1000) × (count < 1000) }
-    ensures { result ≡ spare_zero s.now k kind count }
+    ensures { result ≡ spare_zero s.now k (block_kind_number kind) count }
 {
-    if !rest_zero(s, k, kind, count) {
-        return false;
-    }
-    if kind != HEADER_KIND {
-        return true;
-    }
-    places_zero(s)
+    rest_zero(s, k, kind, count)
+        && match kind {
+            BlockKind::Header => places_zero(s),
+            BlockKind::Vertices | BlockKind::Elements => true,
+        }
 }

@@ -17,11 +17,8 @@ pub(crate) fn element_lines(out: &mut [u8], at: usize, elements: &[u32], n: usiz
     ensures { Written out.old out.new at result (element_lines (tets n elements.now)) × (result ≤ at + 580 * n) }
 {
     let mut p = at;
-    let mut i = 0;
-    while i < n {
-        let t = tet_at(elements, i);
-        p = element_line(out, p, t);
-        i += 1;
+    for i in 0..n {
+        p = element_line(out, p, tet_at(elements, i));
     }
     p
 }
@@ -41,12 +38,9 @@ pub(crate) fn inside_lines(
     ensures { Written out.old out.new at result (inside_lines 0 (map (inside_count (points_of nv points.now) (tets n elements.now)) (take count fields))) × (result ≤ at + 340 * count) }
 {
     let mut p = at;
-    let mut j = 0;
-    while j < count {
-        let f = fields[j];
-        let inside = inside_count(f, points, nv, elements, n);
+    for j in 0..count {
+        let inside = inside_count(fields[j], points, nv, elements, n);
         p = inside_line(out, p, j, inside);
-        j += 1;
     }
     p
 }

@@ -21,16 +21,15 @@ fn put_text(out: &mut [u8], at: usize, text: &[u8]) -> usize
     requires { (at ≤ 1000000) × (length text.now ≤ 100) }
     ensures { Written out.old out.new at result text.now × (result ≤ at + 100) }
 {
-    let mut i = 0;
-    while i < text.len() {
-        let b = text[i];
+    for (i, &b) in text.iter().enumerate() {
         put(out, at + i, b);
-        i += 1;
     }
-    at + i
+    at + text.len()
 }
 
 // Writes a number in decimal digits.
+// Kept by hand: the digits go to a place of a lent slice, with no heap, and a byte past its end is passed over; `write!` would need an
+// `fmt::Write` of its own for that, and is no plainer.
 fn put_decimal(out: &mut [u8], at: usize, n: usize) -> usize
     requires { (at ≤ 1000000) × (n < 100000000000000000000) }
     ensures { Written out.old out.new at result (decimal n) × (result ≤ at + 20) }

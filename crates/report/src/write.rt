@@ -1,16 +1,15 @@
 // The writer of block files: a plot's file, block by block, each word as four bytes.
 ghost use Rattle.std.specs.Prelude.{◌≡◌, ◌+◌, ◌-◌, ◌*◌, ◌<◌, ◌≤◌, [], ◌∷◌, ◌++◌, length, if◌then◌else◌};
 ghost use Rattle.mesh.specs.Words.{zero_words};
-ghost use Rattle.report.specs.Format.{bytes_a_block, first_record, vertex_size, vertices_a_block, element_size, elements_a_block, header_size, field_places, field_size, most_vertices, most_elements};
+ghost use Rattle.report.specs.Format.{block_kind_number, bytes_a_block, first_record, vertex_size, vertices_a_block, element_size, elements_a_block, header_size, field_places, field_size, most_vertices, most_elements};
 ghost use Rattle.report.specs.Bytes.{listed};
 ghost use Rattle.report.specs.Write.{float_words, point_words, check_of, closed, options_words, bounds_words, field_words, place_words, header_record, header_front, vertex_record, element_record, records_from, vertex_front, element_front, file_block, blocks_of, room_for, file_into, file_size};
 ghost use Rattle.report.specs.inside.Put.{Put};
 
 use crate::block::{element_blocks, vertex_blocks};
 use crate::format::{
-    BALL_KIND, BYTES_A_BLOCK, ELEMENT_KIND, ELEMENT_SIZE, ELEMENTS_A_BLOCK, FIELD_PLACES,
-    FIELD_SIZE, HEADER_KIND, HEADER_SIZE, LEVEL_KIND, MOST_ELEMENTS, MOST_VERTICES, PLANE_KIND,
-    RECORD_ROOM, VERTEX_KIND, VERTEX_SIZE, VERTICES_A_BLOCK,
+    BYTES_A_BLOCK, BlockKind, ELEMENT_SIZE, ELEMENTS_A_BLOCK, FIELD_PLACES, FIELD_SIZE,
+    HEADER_SIZE, MOST_ELEMENTS, MOST_VERTICES, RECORD_ROOM, VERTEX_SIZE, VERTICES_A_BLOCK,
 };
 use geometry::bounds::{Bounds, Cells, Options};
 use geometry::field::Field;
@@ -38,7 +37,7 @@ fn put_word(out: &mut [u8], c: Cursor, w: u32) -> Cursor
     out[at + 3] = (w / 16777216 % 256) as u8;
     Cursor {
         at: at + 4,
-        sum: std::num::wrapping_add_u32(c.sum, w),
+        sum: c.sum.wrapping_add(w),
     }
 }
 
@@ -48,10 +47,8 @@ fn put_zeros(out: &mut [u8], c: Cursor, n: usize) -> Cursor
     ensures { Put out.old out.new c.at c.sum result.at result.sum (zero_words n) × (result.at ≡ c.at + 4 * n) }
 {
     let mut d = c;
-    let mut i = 0;
-    while i < n {
+    for i in 0..n {
         d = put_word(out, d, 0);
-        i += 1;
     }
     d
 }
@@ -116,19 +113,13 @@ fn put_field(out: &mut [u8], c: Cursor, f: Field) -> Cursor
     requires { c.at + 4 * field_size ≤ length out.old }
     ensures { Put out.old out.new c.at c.sum result.at result.sum (field_words f) × (result.at ≡ c.at + 4 * field_size) }
 {
+    let d = put_word(out, c, u32::from(f.kind()));
     match f {
         Field::Level(x) => {
-            let d = put_word(out, c, LEVEL_KIND);
             let e = put_float(out, d, x);
             put_zeros(out, e, 6)
         }
-        Field::Plane(n, x) => {
-            let d = put_word(out, c, PLANE_KIND);
-            let e = put_floats(out, d, n);
-            put_float(out, e, x)
-        }
-        Field::Ball(p, x) => {
-            let d = put_word(out, c, BALL_KIND);
+        Field::Plane(p, x) | Field::Ball(p, x) => {
             let e = put_floats(out, d, p);
             put_float(out, e, x)
         }
@@ -153,22 +144,19 @@ fn put_places(out: &mut [u8], c: Cursor, count: u32, fields: [Field; 8]) -> Curs
 {
     let n = count as usize;
     let mut d = c;
-    let mut j = 0;
-    while j < FIELD_PLACES {
-        let f = fields[j];
-        d = put_place(out, d, f, j < n);
-        j += 1;
+    for j in 0..FIELD_PLACES {
+        d = put_place(out, d, fields[j], j < n);
     }
     d
 }
 
 // Writes the words of a block before its records.
-fn put_front(out: &mut [u8], at: usize, kind: u32, number: usize, count: usize) -> Cursor
+fn put_front(out: &mut [u8], at: usize, kind: BlockKind, number: usize, count: usize) -> Cursor
     requires { (at + 4 * first_record ≤ length out.old) × (number < 1000) × (count < 1000) }
-    ensures { Put out.old out.new at 0 result.at result.sum (kind ∷ number ∷ count ∷ []) × (result.at ≡ at + 4 * first_record) }
+    ensures { Put out.old out.new at 0 result.at result.sum (block_kind_number kind ∷ number ∷ count ∷ []) × (result.at ≡ at + 4 * first_record) }
 {
     let c = Cursor { at, sum: 0 };
-    let d = put_word(out, c, kind);
+    let d = put_word(out, c, u32::from(kind));
     let e = put_word(out, d, number as u32);
     put_word(out, e, count as u32)
 }
@@ -216,7 +204,7 @@ fn put_header(
     requires { (at + bytes_a_block ≤ length out.old) × (vertices ≤ most_vertices) × (elements ≤ most_elements) }
     ensures { Put out.old out.new at 0 result 0 (closed (header_front o count fields vertices elements)) × (result ≡ at + bytes_a_block) }
 {
-    let c = put_front(out, at, HEADER_KIND, 0, 1);
+    let c = put_front(out, at, BlockKind::Header, 0, 1);
     let d = put_record(out, c, o, count, fields, vertices, elements);
     put_end(out, d, RECORD_ROOM - HEADER_SIZE)
 }
@@ -254,10 +242,8 @@ fn put_vertices(
     ensures { Put out.old out.new c.at c.sum result.at result.sum (records_from (vertex_record parameters.now points.now masks.now) first n) × (result.at ≡ c.at + 4 * vertex_size * n) }
 {
     let mut d = c;
-    let mut i = 0;
-    while i < n {
+    for i in 0..n {
         d = put_vertex(out, d, parameters, points, masks, first + i);
-        i += 1;
     }
     d
 }
@@ -277,7 +263,7 @@ fn put_vertex_block(
 {
     let first = VERTICES_A_BLOCK * (k - 1);
     let n = least(VERTICES_A_BLOCK, vertices - first);
-    let c = put_front(out, at, VERTEX_KIND, k, n);
+    let c = put_front(out, at, BlockKind::Vertices, k, n);
     let d = put_vertices(out, c, parameters, points, masks, first, n);
     put_end(out, d, RECORD_ROOM - VERTEX_SIZE * n)
 }
@@ -299,10 +285,8 @@ fn put_elements(out: &mut [u8], c: Cursor, corners: &[u32], first: usize, n: usi
     ensures { Put out.old out.new c.at c.sum result.at result.sum (records_from (element_record corners.now) first n) × (result.at ≡ c.at + 4 * element_size * n) }
 {
     let mut d = c;
-    let mut i = 0;
-    while i < n {
+    for i in 0..n {
         d = put_element(out, d, corners, first + i);
-        i += 1;
     }
     d
 }
@@ -321,7 +305,7 @@ fn put_element_block(
 {
     let first = ELEMENTS_A_BLOCK * (k - 1 - before);
     let n = least(ELEMENTS_A_BLOCK, elements - first);
-    let c = put_front(out, at, ELEMENT_KIND, k, n);
+    let c = put_front(out, at, BlockKind::Elements, k, n);
     let d = put_elements(out, c, corners, first, n);
     put_end(out, d, RECORD_ROOM - ELEMENT_SIZE * n)
 }
@@ -372,12 +356,10 @@ fn put_blocks(
     ensures { Put out.old out.new 0 0 result 0 (listed (file_block (record { options = o; count = count; fields = fields; vertices = vertices; elements = elements; parameters = parameters.now; points = points.now; masks = masks.now; corners = corners.now })) n) × (result ≡ bytes_a_block * n) }
 {
     let mut at = 0;
-    let mut k = 0;
-    while k < n {
+    for k in 0..n {
         at = put_block(
             out, at, o, count, fields, vertices, elements, parameters, points, masks, corners, k,
         );
-        k += 1;
     }
     at
 }
@@ -391,6 +373,7 @@ fn blocks_of(vertices: usize, elements: usize) -> usize
 }
 
 // Whether the counts are within the limits, the slices hold as many and the file has room.
+#[tactic(auto, unfolding(crate::specs::Write::room_for))]
 fn has_room(
     count: u32,
     vertices: usize,
@@ -403,28 +386,14 @@ fn has_room(
 ) -> bool
     ensures { result ≡ room_for count vertices elements (record { parameters = parameters; points = points; masks = masks; corners = corners; out = out }) }
 {
-    if MOST_VERTICES < vertices {
-        return false;
-    }
-    if MOST_ELEMENTS < elements {
-        return false;
-    }
-    if FIELD_PLACES < count as usize {
-        return false;
-    }
-    if parameters < 3 * vertices {
-        return false;
-    }
-    if points < 3 * vertices {
-        return false;
-    }
-    if masks < vertices {
-        return false;
-    }
-    if corners < 4 * elements {
-        return false;
-    }
-    BYTES_A_BLOCK * blocks_of(vertices, elements) <= out
+    vertices <= MOST_VERTICES
+        && elements <= MOST_ELEMENTS
+        && count as usize <= FIELD_PLACES
+        && 3 * vertices <= parameters
+        && 3 * vertices <= points
+        && vertices <= masks
+        && 4 * elements <= corners
+        && BYTES_A_BLOCK * blocks_of(vertices, elements) <= out
 }
 
 // Writes a plot's block file to the front of `out`, and gives its length. Writes nothing and gives 0

@@ -1,6 +1,8 @@
 // The square root at special operands, at the ends of the range, at exact squares and their
 // neighbours, and beside ties.
-use crate::show::{bits, float, of, text};
+use crate::patterns::float_of;
+use geometry::root::root;
+use geometry::word::pattern;
 use std::io;
 
 const ROOTS: [u64; 46] = [
@@ -62,16 +64,10 @@ const ROOTS: [u64; 46] = [
     0x7e37_e43c_8800_759c,
 ];
 
-fn line(rt: &impl Print, n: u64) -> io::Result<()> {
-    text(rt, b"root")?;
-    bits(rt, n)?;
-    float(rt, geometry::root::root(of(n)))?;
-    text(rt, b"\n")
-}
-
 pub(crate) fn run(rt: &impl Print) -> io::Result<()> {
-    for i in 0..46 {
-        line(rt, ROOTS[i])?;
+    for n in ROOTS {
+        let r = pattern(root(float_of(n)));
+        println!(rt; "root {n:016x} {r:016x}")?;
     }
     Ok(())
 }

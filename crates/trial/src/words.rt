@@ -1,5 +1,5 @@
 // An f64 as words and as the number that keeps the order.
-use crate::show::{bits, number, of, text};
+use crate::patterns::float_of;
 use geometry::word::{high_word, low_word, order_bits};
 use std::io;
 
@@ -19,19 +19,15 @@ const WORDS: [u64; 13] = [
     0xffff_ffff_ffff_ffff,
 ];
 
-fn line(rt: &impl Print, n: u64) -> io::Result<()> {
-    let x = of(n);
-    text(rt, b"words")?;
-    bits(rt, n)?;
-    number(rt, low_word(x) as u64)?;
-    number(rt, high_word(x) as u64)?;
-    bits(rt, order_bits(x))?;
-    text(rt, b"\n")
-}
-
 pub(crate) fn run(rt: &impl Print) -> io::Result<()> {
-    for i in 0..13 {
-        line(rt, WORDS[i])?;
+    for n in WORDS {
+        let x = float_of(n);
+        println!(rt;
+            "words {n:016x} {} {} {:016x}",
+            low_word(x),
+            high_word(x),
+            order_bits(x)
+        )?;
     }
     Ok(())
 }

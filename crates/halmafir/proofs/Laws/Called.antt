@@ -8,11 +8,11 @@ use lib.ListN.{length}
 use Rattle.geometry.specs.declared.field.Field.{Field}
 use Rattle.mesh.specs.declared.intake.Sizes.{Sizes}
 use Rattle.mesh.specs.declared.intake.Settings.{Settings}
-use Rattle.mesh.specs.declared.boundary.Outcome.{Outcome}
+use Rattle.mesh.specs.Surface.{Outcome}
 use Rattle.mesh.specs.Words.{zero_words, zero_floats}
 use Rattle.mesh.specs.Intake.{refusal_of}
 use Rattle.mesh.specs.Surface as surface
-use Rattle.repair.specs.declared.answer.Answer.{Answer}
+use Rattle.repair.specs.Step.{Answer}
 use Rattle.repair.specs.Step.{State, Pass, call_of, held, step, number_of, values_of, over}
 use Rattle.halmafir.specs.Called.{Returned, returned, called, Bounded, bounded}
 

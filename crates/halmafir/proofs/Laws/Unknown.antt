@@ -12,7 +12,7 @@ use Rattle.geometry.specs.declared.field.Field.{Field}
 use Rattle.geometry.specs.declared.field.Field.TheVariants.{Level}
 use Rattle.mesh.specs.Tests.{every}
 use Rattle.mesh.specs.Intake.{too_many, too_short, sized_field, options_in, fields_in, intake}
-use Rattle.repair.specs.declared.answer.Answer.TheVariants.{Refused}
+use Rattle.repair.specs.Step.{Refused}
 use Rattle.repair.specs.Step.{State, Call, lengths_of, given, step}
 use Rattle.halmafir.specs.Arrays.{field_of, field_at, fields_of}
 use Rattle.halmafir.specs.Called.{returned, called}

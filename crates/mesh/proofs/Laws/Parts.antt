@@ -1,6 +1,5 @@
 -- Parts of lists, of any element type: what a paste, a fill and a part put back leave where. Assumes nothing.
-use Rattle.std.proofs.Common.{◌≡◌, ℕ, zero, suc, ◌+◌, ◌-◌, ◌<◌, ◌≤◌, Bool, true, false, cond, ◌&&◌, ltb, leb, ◌⊎◌, List, [], ◌∷◌, ◌++◌, length, get_or, take, drop, set, replicate, sym, refl, ap, ◌∙◌, ap₂, inl, inr, ⊎_elim, append_assoc, append-nil, le_refl, le_of_suc-le-suc, not-suc-le-zero, add-one, arith, length-drop, drop_of_length-le, length-take, length-take-le, get_or-drop, take_all, get_or-take, take_at, get_or-append-add, ext_get_or, drop_at, ltb-false, ltb-true, le-leb, leb-false, leb-true}
-use mathlib.Core.Bool.{and-false}
+use Rattle.std.proofs.Common.{◌≡◌, ℕ, zero, suc, ◌+◌, ◌-◌, ◌<◌, ◌≤◌, Bool, true, false, cond, ◌&&◌, ltb, leb, ◌⊎◌, List, [], ◌∷◌, ◌++◌, length, get_or, take, drop, set, sym, refl, ap, ◌∙◌, ap₂, inl, inr, ⊎_elim, append_assoc, append-nil, le_of_suc-le-suc, not-suc-le-zero, add-one, arith, length-drop, drop_of_length-le, length-take, length-take-le, get_or-drop, take_all, get_or-take, take_at, get_or-append-add, ext_get_or, drop_at, ltb-false, ltb-true, le-leb, leb-false, leb-true}
 use lib.ListN.{get_or-append}
 use lib.Seq.{paste, paste-suc, length-paste, length_paste_head}
 use borrow.Author.Tests.{lt-leb}
@@ -21,19 +20,6 @@ pub get_d_any : {A : Type 0} (l : List A) (i : ℕ) (a b : A) → i < length l �
 get_d_any [] i a b h = absurd (not-suc-le-zero h)
 get_d_any (x ∷ l) zero a b h = refl
 get_d_any (x ∷ l) (suc i) a b h = get_d_any l i a b (le_of_suc-le-suc h)
-
--- ---- a list filled from the front
-
-fill_suc : {A : Type 0} (n : ℕ) (v : A) (d : List A) → n < length d → set (replicate n v ++ drop n d) n v ≡ replicate (suc n) v ++ drop (suc n) d
-fill_suc n v [] l = absurd (not-suc-le-zero l)
-fill_suc zero v (x ∷ d) l = refl
-fill_suc {A} (suc n) v (x ∷ d) l = ap (λ (t : List A). v ∷ t) (fill_suc n v d (le_of_suc-le-suc l))
-
-pub fill_more : {A : Type 0} (n : ℕ) (v : A) (d s : List A) → s ≡ replicate n v ++ drop n d → n < length d → set s n v ≡ replicate (n + 1) v ++ drop (n + 1) d
-fill_more {A} n v d s e l = rw (e, add-one) (fill_suc n v d l)
-
-pub fill_done : {A : Type 0} (n : ℕ) (v : A) (d s : List A) → s ≡ replicate n v ++ drop n d → n ≡ length d → s ≡ replicate (length d) v
-fill_done {A} n v d s e l = e ∙ rw (l, drop_of_length-le d {i = length d} (le_refl (length d)), append-nil)
 
 -- ---- a paste
 
@@ -98,25 +84,9 @@ pub within-is : (i n m : ℕ) → inside i n m ≡ true → i + n ≤ m
 unfolding inside
 within-is i n m e = leb-true (i + n) m e
 
--- one element more
-pub into-turn : {A : Type 0} (x d : List A) (i k n p : ℕ) (z : A) → inside i n (length x) ≡ true → inside k n (length d) ≡ true → p < n
-    → set (paste d k (drop i x) p) (k + p) (get_or x (i + p) z) ≡ paste d k (drop i x) (p + 1)
-into-turn x d i k n p z f g l =
-    let a = within-is i n (length x) f in
-    let b = within-is k n (length d) g in
-    rw (add-one, ← (get_or-drop i x p z)) (paste-suc d k (drop i x) p z (omega arith) (omega (arith, length-drop i x)))
-
 pub into-is : {A : Type 0} (x d : List A) (i k n : ℕ) → inside i n (length x) ≡ true → inside k n (length d) ≡ true → paste d k (drop i x) n ≡ copied x i d k n
 unfolding copied
 into-is x d i k n f g = rw (f, g)
-
-pub into-short : {A : Type 0} (x d : List A) (i k n : ℕ) → inside i n (length x) ≡ false → d ≡ copied x i d k n
-unfolding copied
-into-short x d i k n f = rw f
-
-pub into-full : {A : Type 0} (x d : List A) (i k n : ℕ) → inside k n (length d) ≡ false → d ≡ copied x i d k n
-unfolding copied
-into-full x d i k n g = rw (g, and-false)
 
 pub length-copied : {A : Type 0} (x d : List A) (i k n : ℕ) → length (copied x i d k n) ≡ length d
 unfolding copied

@@ -1,11 +1,11 @@
 -- What the passes list at their start (document 01, "Element and surface"): the bad elements, and "only faces and edges of elements that are
 -- bad at the start of the pass". Elements stand in slots; a slot whose first word is 0xFFFFFFFF holds none. Rows are sorted, each is there
 -- once, and its words are vertices in rising order. For contracts of private functions and for proofs; definitions only.
-use Rattle.std.specs.Prelude.{◌≡◌, ℕ, ◌+◌, ◌-◌, ◌*◌, Bool, cond, not, ◌&&◌, List, ◌++◌, map, length, take, drop, ◌==◌, nat_le}
+use Rattle.std.specs.Prelude.{◌≡◌, ℕ, ◌+◌, ◌-◌, ◌*◌, ◌<◌, Bool, cond, not, ◌&&◌, List, ◌++◌, map, length, take, drop, ◌==◌, nat_le}
 use Rattle.geometry.specs.declared.point.Point.{Point}
 use Rattle.mesh.specs.declared.element.Tet.{Tet}
 use Rattle.mesh.specs.declared.list.Listed.{Listed}
-use Rattle.mesh.specs.Words.{zero_words, flat}
+use Rattle.mesh.specs.Words.{zero_words, numbers, flat}
 use Rattle.mesh.specs.Sort.{sort, unique}
 use Rattle.mesh.specs.inside.Rows.{le_row, eq_row}
 use Rattle.mesh.specs.Complex.{keep}
@@ -69,3 +69,10 @@ stacked rs w b s = take b s ++ (flat rs ++ drop (b + w * length rs) s)
 pub record Pushed (rs : List (List ℕ)) (w b : ℕ) (s₀ s : List ℕ) (k : ℕ) : Type 0 where
   pub number : k ≡ length rs
   pub area : s ≡ stacked rs w b s₀
+
+-- c rows of w words an element
+pub record Kind (w c : ℕ) (row : List ℕ → ℕ → List ℕ) (f : Tet → List (List ℕ)) : Type 0 where
+  pub some : 0 < w
+  pub wide : (i : ℕ) → (c * i + c * i) * w ≡ 24 * i
+  pub size : (s : List ℕ) (j : ℕ) → length (row s j) ≡ w
+  pub numbered : (s : List ℕ) (i : ℕ) → map (row s) (numbers 0 (c * i)) ≡ spread f (tets i s)

@@ -150,6 +150,11 @@ pub record Free (x : Index) (s : List ℕ) (k n : ℕ) : Type 0 where
   pub behind : x.area ≤ k
   pub fits : k + n ≤ length s
 
+-- what f gives for an entry of s: w words at most, read before the area
+pub record Steady (x : Index) (s : List ℕ) (w : ℕ) (f : List ℕ → ℕ → List ℕ) : Type 0 where
+  pub few : (p : ℕ) → length (f s p) ≤ w
+  pub same : (t : List ℕ) → ((j : ℕ) → j < x.area → word_at t j ≡ word_at s j) → (p : ℕ) → p / 4 < x.room → f t p ≡ f s p
+
 -- s with the words l from k on
 unfoldable pub written : List ℕ → ℕ → List ℕ → List ℕ
 written s k l = take k s ++ (l ++ drop (k + length l) s)

@@ -3,15 +3,15 @@
 use Rattle.std.specs.Prelude.{◌≡◌, ℕ, ◌+◌, ◌-◌, ◌*◌, ◌/◌, ◌%◌, ◌≤◌, Bool, true, cond, ◌&&◌, ltb, List, [], ◌∷◌, ◌++◌, map, length, take, drop, ◌==◌, nat_le, nat_lt, slice_index}
 use Rattle.mesh.specs.declared.element.Tet.{Tet}
 use Rattle.mesh.specs.declared.element.Triple.{Triple}
-use Rattle.mesh.specs.declared.boundary.Outcome.{Outcome}
-use Rattle.mesh.specs.declared.boundary.Outcome.TheVariants.{Refused}
+use Rattle.mesh.specs.declared.boundary.Run.{Run}
+use Rattle.mesh.specs.declared.boundary.Run.TheVariants.{Single, Opposed, Level, Crowded}
 use Rattle.mesh.specs.Words.{word_at, zero_words, numbers, flat}
 use Rattle.mesh.specs.Tests.{every}
 use Rattle.mesh.specs.inside.Rows.{rows, eq_row}
 use Rattle.mesh.specs.Complex.{Nodup}
 use Rattle.mesh.specs.Element.{tet, tets, faces_of, face_of, vertices_of, key_of, parity_of, corners_of}
 use Rattle.mesh.specs.Boundary.{with_key, boundary_number}
-use Rattle.mesh.specs.Surface.{answer, surface_words, answer_of}
+use Rattle.mesh.specs.Surface.{Outcome, Refused, answer, surface_words, answer_of}
 
 -- ---- the faces of one key
 
@@ -101,6 +101,13 @@ same_parity s r q = parity_of (face_in s r) == parity_of (face_in s q)
 -- the run at the front of face rows
 unfoldable pub kind_at : List ℕ → List (List ℕ) → ℕ
 kind_at s rs = kind same_key (same_parity s) rs
+
+-- the number of a run's kind
+abbrev pub run_number : Run → ℕ
+run_number Single = 0
+run_number Opposed = 1
+run_number Level = 17
+run_number Crowded = 16
 
 -- the face rows of n elements
 abbrev pub face_area : ℕ → List ℕ → List (List ℕ)

@@ -16,7 +16,7 @@ use crate::element::{Pair, Triple, is_corner};
 use crate::euler::list_triangles;
 use crate::faces::order_faces;
 use crate::link::marks::{links_meet, mark_by};
-use crate::rows::{run_from, sort_from};
+use crate::rows::{put_row, run_from, sort_from};
 use crate::words::copy_words;
 
 // The mark of a face.
@@ -27,44 +27,36 @@ fn triple_mark(f: Triple, a: u32, b: u32) -> u32
 }
 
 // The vertices of a face but v.
+#[tactic(auto, unfolding(crate::specs::inside::LinkRows::beside))]
 fn beside(f: Triple, v: u32) -> Pair
     ensures { result ≡ beside f v }
 {
-    if f.a == v {
-        return Pair { a: f.b, b: f.c };
+    let Triple { a, b, c } = f;
+    if v == a {
+        Pair { a: b, b: c }
+    } else if v == b {
+        Pair { a, b: c }
+    } else {
+        Pair { a, b }
     }
-    if f.b == v {
-        return Pair { a: f.a, b: f.c };
-    }
-    Pair { a: f.a, b: f.b }
 }
 
 // The edge of a face opposite a, or opposite b where it has not a.
 fn link_pair(f: Triple, a: u32, b: u32) -> Pair
     ensures { result ≡ link_pair a b f }
 {
-    if is_corner(f, a) {
-        return beside(f, a);
-    }
-    beside(f, b)
+    beside(f, if is_corner(f, a) { a } else { b })
 }
 
 // Writes the rows of a face at p.
+#[tactic(auto, unfolding(crate::specs::Words::flat))]
 fn put_face(area: &mut [u32], p: usize, f: Triple, a: u32, b: u32)
     requires { p + 9 ≤ length area.old }
     ensures { area.new ≡ paste area.old p (flat (face_rows a b f)) 9 }
 {
     let e = link_pair(f, a, b);
     let m = triple_mark(f, a, b);
-    area[p] = e.b;
-    area[p + 1] = e.b;
-    area[p + 2] = m;
-    area[p + 3] = e.a;
-    area[p + 4] = e.a;
-    area[p + 5] = m;
-    area[p + 6] = e.a;
-    area[p + 7] = e.b;
-    area[p + 8] = m;
+    put_row(area, p, &[e.b, e.b, m, e.a, e.a, m, e.a, e.b, m]);
 }
 
 // The face of the three words at p.
@@ -84,10 +76,8 @@ fn drop_numbers(area: &mut [u32], p: usize, m: usize)
     requires { (p ≤ 65536) × (m ≤ 65536) × (p + 4 * m ≤ length area.old) }
     ensures { (rows 3 m (drop p area.new) ≡ map (take 3) (rows 4 m (drop p area.old))) × KeptBelow p area.old area.new }
 {
-    let mut i = 0;
-    while i < m {
+    for i in 0..m {
         copy_words(area, p + 4 * i, p + 3 * i, 3);
-        i += 1;
     }
 }
 
@@ -122,10 +112,7 @@ fn sorted_keys(area: &mut [u32], n: usize)
 fn alone_about(k: usize, f: Triple, a: u32, b: u32) -> bool
     ensures { result ≡ alone_about a b k f }
 {
-    if k != 1 {
-        return false;
-    }
-    0 < triple_mark(f, a, b)
+    k == 1 && 0 < triple_mark(f, a, b)
 }
 
 // Writes the rows of the boundary faces about the edge, from the sorted keys behind the n elements, behind those keys. Gives how many faces.
@@ -137,16 +124,15 @@ fn list_alone(area: &mut [u32], n: usize, a: u32, b: u32) -> usize
     let m = 4 * n;
     let mut c = 0;
     let mut first = 0;
+    // Kept by hand: a step is a run of rows.
     while first < m {
         let k = run_from(area, m, first, m, 3, 3);
         let f = face_in(area, m + 3 * first);
         if alone_about(k, f, a, b) {
             put_face(area, 4 * m + 9 * c, f, a, b);
             c += 1;
-            first += k;
-        } else {
-            first += k;
         }
+        first += k;
     }
     c
 }

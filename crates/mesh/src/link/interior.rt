@@ -9,7 +9,7 @@ ghost use Rattle.mesh.specs.inside.LinkTable.{told_tet};
 
 use crate::link::marks::{link_face, links_meet, subset, tet_mark};
 use crate::link::table::{all_told, fill_table, list_told};
-use crate::rows::{put_four, sort_from};
+use crate::rows::{put_row, sort_from};
 use crate::vertex::tet_at;
 
 // Writes the rows of n elements behind them.
@@ -17,14 +17,11 @@ fn list_links(area: &mut [u32], n: usize, a: u32, b: u32)
     requires { (n ≤ 16384) × (88 * n ≤ length area.old) }
     ensures { area.new ≡ filled (element_row_at a b area.old) 4 (4 * n) (7 * n) area.old }
 {
-    let m = 7 * n;
-    let mut j = 0;
-    while j < m {
+    for j in 0..7 * n {
         let t = tet_at(area, j / 7);
         let f = link_face(t, a, b);
         let s = subset(f, j % 7);
-        put_four(area, 4 * n + 4 * j, s.a, s.b, s.c, tet_mark(t, a, b));
-        j += 1;
+        put_row(area, 4 * n + 4 * j, &[s.a, s.b, s.c, tet_mark(t, a, b)]);
     }
 }
 

@@ -10,19 +10,11 @@ use crate::element::{Tet, Triple, face_key, has_vertex};
 use crate::rows::run_from;
 
 // 3 with both ends, 1 with a only, 2 with b only, 0 with neither, from whether a and b are there.
+// Kept by hand: no enum, since a mark is a word of a row, and rows are sorted and compared as words.
 pub(crate) fn mark_by(a: bool, b: bool) -> u32
     ensures { result ≡ mark_by a b }
 {
-    if a {
-        if b {
-            return 3;
-        }
-        return 1;
-    }
-    if b {
-        return 2;
-    }
-    0
+    u32::from(a) + 2 * u32::from(b)
 }
 
 // The mark of an element.
@@ -33,34 +25,20 @@ pub(crate) fn tet_mark(t: Tet, a: u32, b: u32) -> u32
 }
 
 // The vertices of an element but v.
+// Kept by hand: one generic of this and `beside` would give an array of one vertex less, a const argument that is computed.
+#[tactic(auto, unfolding(crate::specs::inside::LinkRows::opposite))]
 fn opposite(t: Tet, v: u32) -> Triple
     ensures { result ≡ opposite t v }
 {
-    if t.a == v {
-        return Triple {
-            a: t.b,
-            b: t.c,
-            c: t.d,
-        };
-    }
-    if t.b == v {
-        return Triple {
-            a: t.a,
-            b: t.c,
-            c: t.d,
-        };
-    }
-    if t.c == v {
-        return Triple {
-            a: t.a,
-            b: t.b,
-            c: t.d,
-        };
-    }
-    Triple {
-        a: t.a,
-        b: t.b,
-        c: t.c,
+    let Tet { a, b, c, d } = t;
+    if v == a {
+        Triple { a: b, b: c, c: d }
+    } else if v == b {
+        Triple { a, b: c, c: d }
+    } else if v == c {
+        Triple { a, b, c: d }
+    } else {
+        Triple { a, b, c }
     }
 }
 
@@ -68,59 +46,24 @@ fn opposite(t: Tet, v: u32) -> Triple
 pub(crate) fn link_face(t: Tet, a: u32, b: u32) -> Triple
     ensures { result ≡ link_face a b t }
 {
-    if has_vertex(t, a) {
-        return face_key(opposite(t, a));
-    }
-    face_key(opposite(t, b))
+    face_key(opposite(t, if has_vertex(t, a) { a } else { b }))
 }
 
 // The set k of one, two or three of the vertices of a key: its last vertex repeated. From 6 on the key itself.
+#[tactic(auto, unfolding(crate::specs::inside::LinkRows::subset_at))]
 pub(crate) fn subset(f: Triple, k: usize) -> Triple
     ensures { result ≡ subset_at f k }
 {
-    if k == 0 {
-        return Triple {
-            a: f.c,
-            b: f.c,
-            c: f.c,
-        };
+    let Triple { a, b, c } = f;
+    match k {
+        0 => Triple { a: c, b: c, c },
+        1 => Triple { a: b, b, c: b },
+        2 => Triple { a, b: a, c: a },
+        3 => Triple { a: b, b: c, c },
+        4 => Triple { a, b: c, c },
+        5 => Triple { a, b, c: b },
+        _ => f,
     }
-    if k == 1 {
-        return Triple {
-            a: f.b,
-            b: f.b,
-            c: f.b,
-        };
-    }
-    if k == 2 {
-        return Triple {
-            a: f.a,
-            b: f.a,
-            c: f.a,
-        };
-    }
-    if k == 3 {
-        return Triple {
-            a: f.b,
-            b: f.c,
-            c: f.c,
-        };
-    }
-    if k == 4 {
-        return Triple {
-            a: f.a,
-            b: f.c,
-            c: f.c,
-        };
-    }
-    if k == 5 {
-        return Triple {
-            a: f.a,
-            b: f.b,
-            c: f.b,
-        };
-    }
-    f
 }
 
 // Whether one of the k rows of kw + 1 words from p on has the mark m.
@@ -128,14 +71,11 @@ pub(crate) fn has_mark(area: &[u32], p: usize, k: usize, kw: usize, m: u32) -> b
     requires { p + k * (kw + 1) ≤ length area.now }
     ensures { result ≡ marked kw m (rows (kw + 1) k (drop p area.now)) }
 {
-    let mut i = p;
-    let mut left = k;
-    while 0 < left {
-        if area[i + kw] == m {
+    // Kept by hand: written as `(0..k).any(..)`, the proof did not close: it does not tie the answer to the list of rows.
+    for i in 0..k {
+        if area[p + i * (kw + 1) + kw] == m {
             return true;
         }
-        i += kw + 1;
-        left -= 1;
     }
     false
 }
@@ -145,13 +85,7 @@ fn run_meets(area: &[u32], p: usize, k: usize, kw: usize) -> bool
     requires { p + k * (kw + 1) ≤ length area.now }
     ensures { result ≡ meet_run kw (rows (kw + 1) k (drop p area.now)) }
 {
-    if has_mark(area, p, k, kw, 3) {
-        return true;
-    }
-    if !has_mark(area, p, k, kw, 1) {
-        return true;
-    }
-    !has_mark(area, p, k, kw, 2)
+    has_mark(area, p, k, kw, 3) || !has_mark(area, p, k, kw, 1) || !has_mark(area, p, k, kw, 2)
 }
 
 // Whether that is so of every run of the m rows of kw + 1 words from p on.
@@ -161,6 +95,7 @@ pub(crate) fn links_meet(area: &[u32], p: usize, m: usize, kw: usize) -> bool
 {
     let w = kw + 1;
     let mut first = 0;
+    // Kept by hand: a step is a run of rows.
     while first < m {
         let k = run_from(area, p, first, m, w, kw);
         if !run_meets(area, p + first * w, k, kw) {

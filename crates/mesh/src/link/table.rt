@@ -11,7 +11,7 @@ ghost use Rattle.mesh.specs.inside.LinkTable.{table_word, told_both, told_mark, 
 
 use crate::element::{Tet, Triple};
 use crate::link::marks::{link_face, subset, tet_mark};
-use crate::rows::put_four;
+use crate::rows::put_row;
 use crate::vertex::tet_at;
 use crate::words::{clear_from, put_word, word};
 
@@ -51,12 +51,9 @@ pub(crate) fn fill_table(area: &mut [u32], n: usize, a: u32, b: u32)
 {
     let at = 60 * n;
     clear_from(area, at);
-    let mut e = 0;
-    while e < n {
+    for e in 0..n {
         let t = tet_at(area, e);
-        let m = tet_mark(t, a, b) % 3;
-        tell_tet(area, at, t, m);
-        e += 1;
+        tell_tet(area, at, t, tet_mark(t, a, b) % 3);
     }
 }
 
@@ -74,10 +71,7 @@ fn told_mark(area: &[u32], at: usize, m: u32, v: u32) -> bool
     ensures { result ≡ told_mark at area.now m v }
 {
     let w = table_word(area, at, v);
-    if w == m {
-        return true;
-    }
-    w == 3
+    w == m || w == 3
 }
 
 // Whether all three vertices of a simplex are told with both marks.
@@ -85,13 +79,7 @@ fn both_face(area: &[u32], at: usize, f: Triple) -> bool
     requires { at ≤ 983040 }
     ensures { result ≡ both_face at area.now f }
 {
-    if !told_both(area, at, f.a) {
-        return false;
-    }
-    if !told_both(area, at, f.b) {
-        return false;
-    }
-    told_both(area, at, f.c)
+    [f.a, f.b, f.c].iter().all(|v| told_both(area, at, *v))
 }
 
 // Whether none of them is.
@@ -99,13 +87,7 @@ fn none_face(area: &[u32], at: usize, f: Triple) -> bool
     requires { at ≤ 983040 }
     ensures { result ≡ none_face at area.now f }
 {
-    if told_both(area, at, f.a) {
-        return false;
-    }
-    if told_both(area, at, f.b) {
-        return false;
-    }
-    !told_both(area, at, f.c)
+    ![f.a, f.b, f.c].iter().any(|v| told_both(area, at, *v))
 }
 
 // Whether three vertices are told with the mark m, where it is 1 or 2.
@@ -113,19 +95,21 @@ fn told_words(area: &[u32], at: usize, m: u32, f: Triple) -> bool
     requires { at ≤ 983040 }
     ensures { result ≡ told_words at area.now m f.a f.b f.c }
 {
-    if m == 0 {
-        return true;
-    }
-    if m == 3 {
-        return true;
-    }
-    if !told_mark(area, at, m, f.a) {
-        return false;
-    }
-    if !told_mark(area, at, m, f.b) {
-        return false;
-    }
-    told_mark(area, at, m, f.c)
+    // Kept by hand: written as `[f.a, f.b, f.c].iter().all(..)`, the proof did not close behind the two tests of m.
+    m == 0
+        || m == 3
+        || (told_mark(area, at, m, f.a)
+            && told_mark(area, at, m, f.b)
+            && told_mark(area, at, m, f.c))
+}
+
+// Whether the vertices of an element's face in the link are told with its mark.
+#[tactic(auto, unfolding(crate::specs::inside::LinkTable::told_tet))]
+fn tells_tet(area: &[u32], at: usize, t: Tet, a: u32, b: u32) -> bool
+    requires { at ≤ 983040 }
+    ensures { result ≡ told_tet at area.now a b t }
+{
+    told_words(area, at, tet_mark(t, a, b), link_face(t, a, b))
 }
 
 // Whether the table tells the marks of all n elements.
@@ -133,15 +117,11 @@ pub(crate) fn all_told(area: &[u32], n: usize, a: u32, b: u32) -> bool
     requires { n ≤ 16384 }
     ensures { result ≡ every (told_tet (60 * n) area.now a b) (tets n area.now) }
 {
-    let at = 60 * n;
-    let mut e = 0;
-    while e < n {
-        let t = tet_at(area, e);
-        let f = link_face(t, a, b);
-        if !told_words(area, at, tet_mark(t, a, b), f) {
+    // Kept by hand: written as `(0..n).all(..)`, the proof did not close: it does not tie the answer to the list of elements.
+    for e in 0..n {
+        if !tells_tet(area, 60 * n, tet_at(area, e), a, b) {
             return false;
         }
-        e += 1;
     }
     true
 }
@@ -151,10 +131,7 @@ fn leaves_out(area: &[u32], at: usize, f: Triple, k: usize) -> bool
     requires { at ≤ 983040 }
     ensures { result ≡ (k == 0 && none_face at area.now f) }
 {
-    if k != 0 {
-        return false;
-    }
-    none_face(area, at, f)
+    k == 0 && none_face(area, at, f)
 }
 
 // Writes those rows of n elements behind them whose vertices are told with both marks, and gives how many.
@@ -166,6 +143,7 @@ pub(crate) fn list_told(area: &mut [u32], n: usize, a: u32, b: u32) -> usize
     let at = 60 * n;
     let mut c = 0;
     let mut j = 0;
+    // Kept by hand: a step is one row, or the seven of an element that is left out.
     while j < m {
         let t = tet_at(area, j / 7);
         let f = link_face(t, a, b);
@@ -175,12 +153,10 @@ pub(crate) fn list_told(area: &mut [u32], n: usize, a: u32, b: u32) -> usize
         } else {
             let g = subset(f, k);
             if both_face(area, at, g) {
-                put_four(area, 4 * n + 4 * c, g.a, g.b, g.c, tet_mark(t, a, b));
+                put_row(area, 4 * n + 4 * c, &[g.a, g.b, g.c, tet_mark(t, a, b)]);
                 c += 1;
-                j += 1;
-            } else {
-                j += 1;
             }
+            j += 1;
         }
     }
     c

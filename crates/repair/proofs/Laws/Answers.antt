@@ -4,8 +4,8 @@ use mathlib.Core.List.{List}
 use Prim.Native.Nat.{ℕ}
 use native.Mathlib.Omega.{arith}
 use lib.ListN.{length, get_or}
-use Rattle.repair.specs.declared.answer.Answer.{Answer}
-use Rattle.repair.specs.declared.answer.Answer.TheVariants.{Done, Refused}
+use Rattle.repair.specs.Step.{Answer}
+use Rattle.repair.specs.Step.{Done, Refused}
 use Rattle.repair.specs.Step.{State, number_of, values_of, in_numbers}
 
 -- a refusal has no values, a result four

@@ -1,5 +1,4 @@
 -- Laws of the candidates of `smooth`.
 pub mod Chosen
-pub mod Tests
 pub mod Mean
-pub mod Numbered
+pub mod Tests

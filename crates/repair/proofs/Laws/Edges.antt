@@ -1,4 +1,3 @@
 -- The laws of the edges of a round.
-pub mod Copy
 pub mod Rows
 pub mod Whole

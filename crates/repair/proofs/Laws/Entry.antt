@@ -11,7 +11,7 @@ use borrow.Author.Tests.{ne_eqb, leb-true}
 use Rattle.mesh.specs.Words.{zero_words}
 use Rattle.mesh.specs.Intake.{Given, given_of, intake, bounds_in, cells_in}
 use Rattle.mesh.proofs.Laws.Complex.Sets.{and-fst, and-snd}
-use Rattle.repair.specs.declared.answer.Answer.TheVariants.{Refused}
+use Rattle.repair.specs.Step.{Refused}
 use Rattle.repair.specs.Improve as def
 use Rattle.repair.specs.Step.{State, Call, Pass, mesh_of, given, lengths_of, result_of, finish, step}
 use Rattle.repair.specs.inside.improve.Fitting.{Fitting}

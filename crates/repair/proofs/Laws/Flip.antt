@@ -21,7 +21,7 @@ pub mod Layout
 pub mod Written
 pub mod Held
 pub mod Find
-pub mod Trio
+pub mod Accepted
 pub mod Replaced
 pub mod Part
 pub mod Lists

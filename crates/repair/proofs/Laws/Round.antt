@@ -6,8 +6,9 @@ use Prim.Native.Nat.{ℕ, zero, suc, ◌+◌, ◌*◌, ◌≤◌, ◌<◌}
 use native.Mathlib.Omega.{arith}
 use lib.Dec.{eqb, ltb}
 use lib.Ieee.{Float}
-use lib.ListN.{length, drop, length-append, length-map}
+use lib.ListN.{get_or, length, drop, length-append, length-map}
 use lib.Seq.{get_or-drop}
+use Rattle.std.specs.Prelude.{Option, None, Some}
 use Rattle.geometry.specs.declared.bounds.Options.{Options}
 use Rattle.mesh.specs.declared.element.Pair.{Pair}
 use Rattle.mesh.specs.declared.star.Index.{Index}
@@ -78,6 +79,12 @@ module _ (o : Options) (m : Mesh) (μ : Measure) where
       pick : (b : Bool) → cond (b || true) s (cond (may_go o m μ s e.a e.b) (go o m μ s e.a e.b) (cond (may_go o m μ s e.b e.a) (go o m μ s e.b e.a) s)) ≡ s
       pick true = refl
       pick false = refl
+
+-- the directions of an edge, one after the other
+pub way-item : (e d : Pair) (k : ℕ) → k < 2 → get_or (e ∷ pair e.b e.a ∷ []) k d ≡ way_of e (k + 1)
+way-item e d zero h = refl
+way-item e d (suc zero) h = refl
+way-item e d (suc (suc k)) h = absurd (omega arith)
 
 -- the rows of edges from the i-th on
 pub edges-from : (k i : ℕ) (s : List ℕ) → i < k → drop i (row_edges k s) ≡ pair (word_at s (4 * i + 2)) (word_at s (4 * i + 3)) ∷ drop (i + 1) (row_edges k s)
@@ -203,7 +210,6 @@ module _ (o : Options) (x : Index) (n many : ℕ) (w₀ : List ℕ) (ps qs : Lis
     pub few : replaced + 4096 ≤ 4096 * i
     pub below : below x.vertices e ≡ true
     pub way : (1 ≤ d) × (d ≤ 2)
-    pub some : 0 < k
     pub most : k ≤ x.vertices
     pub within : p ≤ k
     pub state : (m : Mesh) (s : State) → Reads m x.vertices ps qs ms → Stands o m x n w₀ s → Paired m s w replaced e d k p (drop i es)
@@ -310,14 +316,6 @@ module _ (o : Options) (x : Index) (n many : ℕ) (w₀ : List ℕ) (ps qs : Lis
       pick true a b = (a, b)
       pick false a b = (b, a)
 
-  -- nor is one replaced where none of the edge is
-  way-there : (replaced : List ℕ) (e : Pair) (d : ℕ) → mem e.a replaced ≡ false → mem e.b replaced ≡ false → mem (way_of e d).a replaced ≡ false
-  way-there replaced e d f g = pick (eqb d 1)
-    where
-      pick : (c : Bool) → mem (cond c e (pair e.b e.a)).a replaced ≡ false
-      pick true = f
-      pick false = g
-
   -- words of the pairs' area, or from the area on, changed: the edges are as they were
   listed-pairs : (w w' : List ℕ) → Given → Listed w → Same w w' (pairs_at x) x.slots → Listed w'
   listed-pairs w w' g l q = record {
@@ -357,13 +355,13 @@ module _ (o : Options) (x : Index) (n many : ℕ) (w₀ : List ℕ) (ps qs : Lis
       });
     }
 
-    module _ (w' : List ℕ) (k : ℕ) (less : d < 2)
-        (found : (m : Mesh) (s : State) → Reads m x.vertices ps qs ms → Stands o m x n w s → MayPair o m x n s (way_of e (d + 1)).a (way_of e (d + 1)).b w w' k) where
-      one : MayPair o ways-ready.0 x n ways-ready.1 (way_of e (d + 1)).a (way_of e (d + 1)).b w w' k
+    module _ (w' : List ℕ) (r : Option ℕ) (less : d < 2)
+        (found : (m : Mesh) (s : State) → Reads m x.vertices ps qs ms → Stands o m x n w s → MayPair o m x n s (way_of e (d + 1)).a (way_of e (d + 1)).b w w' r) where
+      one : MayPair o ways-ready.0 x n ways-ready.1 (way_of e (d + 1)).a (way_of e (d + 1)).b w w' r
       one = found ways-ready.0 ways-ready.1 ways-ready.2 ways-ready.3
 
       -- the direction does not pair off: the next direction
-      pub ways-none : k ≡ 0 → AtWay w' replaced i e (d + 1)
+      pub ways-none : r ≡ None → AtWay w' replaced i e (d + 1)
       unfolding facing
       ways-none none = record {
         given = h.given;
@@ -378,22 +376,21 @@ module _ (o : Options) (x : Index) (n many : ℕ) (w₀ : List ℕ) (ps qs : Lis
           first = c.first;
           second = c.second;
           left = ap (λ u. try_edges o m (measure m.points) u (drop i es))
-              (sym (after_next o m (measure m.points) d c.at e less ∙ ap (λ u. cond u (go o m (measure m.points) c.at (way_of e (d + 1)).a (way_of e (d + 1)).b) (after o m (measure m.points) (d + 1) c.at e)) (q.none none (way-there c.at.replaced e (d + 1) c.first c.second)))) ∙ c.left;
+              (sym (after_next o m (measure m.points) d c.at e less ∙ ap (λ u. cond u (go o m (measure m.points) c.at (way_of e (d + 1)).a (way_of e (d + 1)).b) (after o m (measure m.points) (d + 1) c.at e)) (q.none none))) ∙ c.left;
           grown = c.grown;
         });
       }
 
       -- it does: its pairs
-      pub pairs_start : 0 < k → AtPair w' replaced i e (d + 1) k 0
-      pairs_start some = record {
+      pub pairs_start : (k : ℕ) → r ≡ Some k → AtPair w' replaced i e (d + 1) k 0
+      pairs_start k some = record {
         given = h.given;
         listed = listed-pairs w w' h.given h.listed one.same;
         done = h.done;
         few = h.few;
         below = h.below;
         way = (omega arith, omega arith);
-        some = some;
-        most = one.few;
+        most = one.few k some;
         within = omega arith;
         state = λ m s r z. (let c = h.state m s r z in let q = found m c.at r c.stands in record {
           at = c.at;
@@ -402,9 +399,9 @@ module _ (o : Options) (x : Index) (n many : ℕ) (w₀ : List ℕ) (ps qs : Lis
           second = c.second;
           left = ap (λ u. try_edges o m (measure m.points) u (drop i es)) (sym (after_next o m (measure m.points) d c.at e less)) ∙ c.left;
           grown = c.grown;
-          pairs = q.pairs some;
-          proper = subst (Pairs x.vertices) (sym (q.pairs some)) (q.proper some);
-          rule = subst (λ l. (stratum_rule o m (way_of e (d + 1)).a (way_of e (d + 1)).b && pair_off (active_group o m c.at.replaced (way_of e (d + 1)).a) (active_group o m c.at.replaced (way_of e (d + 1)).b) l) ≡ true) (sym (q.pairs some)) (q.rule some);
+          pairs = q.pairs k some;
+          proper = subst (Pairs x.vertices) (sym (q.pairs k some)) (q.proper k some);
+          rule = subst (λ l. (stratum_rule o m (way_of e (d + 1)).a (way_of e (d + 1)).b && pair_off (active_group o m c.at.replaced (way_of e (d + 1)).a) (active_group o m c.at.replaced (way_of e (d + 1)).b) l) ≡ true) (sym (q.pairs k some)) (q.rule k some);
           ok = refl;
         });
       }
@@ -509,7 +506,6 @@ module _ (o : Options) (x : Index) (n many : ℕ) (w₀ : List ℕ) (ps qs : Lis
         few = h.few;
         below = h.below;
         way = h.way;
-        some = h.some;
         most = h.most;
         within = omega arith;
         state = λ m s r z. (let c = h.state m s r z in record {
@@ -583,13 +579,6 @@ module _ (o : Options) (x : Index) (n many : ℕ) (w₀ : List ℕ) (ps qs : Lis
 
   pub edges_few : (w : List ℕ) (replaced i : ℕ) → AtEdge w replaced i → replaced ≤ 4096 * many
   edges_few w replaced i h = let a = h.done in let b = h.few in omega arith
-
-  -- the places of the edges are small numbers
-  pub edge-bounds : (w : List ℕ) (replaced i : ℕ) → AtEdge w replaced i → (edges_at x ≤ 1048576) × (i ≤ 1048576)
-  edge-bounds w replaced i h =
-      let r = room h.given in let a = r.few in let b = r.elements in let c = r.slots in let d = r.nexts in let e = r.heads in let f = r.lengths in
-      let g = h.done in let k = h.given.few in
-      (omega arith, omega arith)
 
   pub pairs-room : (w : List ℕ) (replaced i : ℕ) (e : Pair) (d k p : ℕ) → AtPair w replaced i e d k p → Room x n (length w)
   pairs-room w replaced i e d k p h = subst (Room x n) (sym h.listed.long) (room h.given)

@@ -87,13 +87,13 @@ module _ (o : Options) (x : Index) (n : ℕ) (w₀ : List ℕ) (ps qs : List Flo
     pub sum : replaced + 4294967296 * left ≤ 4294967296 * o.passes
     pub state : (m : Mesh) (s : State) → Reads m x.vertices ps qs ms → Stands o m x n w₀ s → Gone m s w replaced left
 
-  pub rounds-start : Ready o x n w₀ ps qs ms → o.passes ≤ 16 → AtRound w₀ 0 o.passes
-  rounds-start r f = record {
+  pub rounds-start : Ready o x n w₀ ps qs ms → o.passes ≤ 16 → (left : ℕ) → left ≡ o.passes → AtRound w₀ 0 left
+  rounds-start r f left e = record {
     ready = r;
     most = omega arith;
     few = f;
     sum = omega arith;
-    state = λ m s q z. record { at = s; stands = z; rest = refl; grown = (let e : length s.replaced ≡ 0 + length s.replaced = omega arith in e) };
+    state = λ m s q z. record { at = s; stands = z; rest = ap (λ u. rounds o m (measure m.points) u s) e; grown = (let e : length s.replaced ≡ 0 + length s.replaced = omega arith in e) };
   }
 
   module _ (w : List ℕ) (replaced left : ℕ) (h : AtRound w replaced left) where

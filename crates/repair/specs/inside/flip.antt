@@ -6,4 +6,3 @@ pub mod Fitting
 pub mod Layout
 pub mod Replace
 pub mod Tries
-pub mod Trio

@@ -2,33 +2,34 @@
 ghost use Rattle.std.specs.Prelude.{◌≡◌, true, List, map, ℕ, ◌+◌, ◌*◌, ◌≤◌, length, take, drop};
 ghost use Rattle.mesh.specs.Sort.{sort};
 ghost use Rattle.mesh.specs.Element.{key_of, tets, triples};
-ghost use Rattle.mesh.specs.Boundary.{same_triple, le_triple};
+ghost use Rattle.mesh.specs.Boundary.{le_triple};
 ghost use Rattle.mesh.specs.inside.Surface.{area_fits};
 ghost use Rattle.repair.specs.Flip.{sorted_keys, same_triples};
 ghost use Rattle.repair.specs.inside.Layout.{Same};
 ghost use Rattle.repair.specs.inside.flip.Layout.{triple_at, with_triple};
 ghost use Rattle.repair.specs.inside.flip.Finish.{keyed_outcome, SurfaceEnded, EndRoom, flip_end};
-ghost use Rattle.repair.specs.Step.{over};
-ghost use Rattle.repair.specs.declared.answer.Answer.{Answer};
+ghost use Rattle.mesh.specs.Surface.{Surface, outcome_of};
+ghost use Rattle.repair.specs.Answer.{answer_of};
+ghost use Rattle.repair.specs.Step.{Answer, over};
 
-use crate::answer::Answer;
+use crate::answer::Made;
 use crate::flip::layout::triple_from;
-use mesh::boundary::{Outcome, boundary_in};
-use mesh::element::{Triple, face_key};
+use mesh::boundary::boundary_in;
+use mesh::element::face_key;
 use mesh::intake::Sizes;
+use mesh::refusal::Refusal;
 use mesh::rows::sort_rows;
-use mesh::words::{copy_into, put_word};
+use mesh::words::copy_into;
 
 // Writes the key of the triple at i to d.
 fn put_key(area: &mut [u32], i: usize, d: usize)
     requires { (i + 3 ≤ length area.old) × (d + 3 ≤ length area.old) }
     ensures { area.new ≡ with_triple (key_of (triple_at area.old i)) d area.old }
 {
-    let f = triple_from(area, i);
-    let g = face_key(f);
-    put_word(area, d, g.a);
-    put_word(area, d + 1, g.b);
-    put_word(area, d + 2, g.c);
+    let g = face_key(triple_from(area, i));
+    area[d] = g.a;
+    area[d + 1] = g.b;
+    area[d + 2] = g.c;
 }
 
 // Writes the keys of the c triples from i on to the words from d on, which lie behind them.
@@ -36,10 +37,8 @@ fn put_keys(area: &mut [u32], i: usize, d: usize, c: usize)
     requires { (c ≤ 131072) × (i + 3 * c ≤ d) × (d + 3 * c ≤ length area.old) }
     ensures { (triples c (drop d area.new) ≡ map key_of (triples c (drop i area.old))) × Same area.old area.new d (d + 3 * c) }
 {
-    let mut j = 0;
-    while j < c {
+    for j in 0..c {
         put_key(area, i + 3 * j, d + 3 * j);
-        j += 1;
     }
 }
 
@@ -62,38 +61,12 @@ fn put_sorted_keys(area: &mut [u32], i: usize, d: usize, c: usize)
     sort_triples(area, d, c);
 }
 
-// Whether two triples are the same.
-fn same_triple(f: Triple, g: Triple) -> bool
-    ensures { result ≡ same_triple f g }
-{
-    if f.a != g.a {
-        return false;
-    }
-    if f.b != g.b {
-        return false;
-    }
-    f.c == g.c
-}
-
 // Whether the c triples from p on are those from q on.
 fn same_triples(area: &[u32], p: usize, q: usize, c: usize) -> bool
     requires { (p + 3 * c ≤ length area.now) × (q + 3 * c ≤ length area.now) }
     ensures { result ≡ same_triples (triples c (drop p area.now)) (triples c (drop q area.now)) }
 {
-    let mut i = p;
-    let mut j = q;
-    let mut left = c;
-    while 0 < left {
-        let f = triple_from(area, i);
-        let g = triple_from(area, j);
-        if !same_triple(f, g) {
-            return false;
-        }
-        i += 3;
-        j += 3;
-        left -= 1;
-    }
-    true
+    area[p..p + 3 * c] == area[q..q + 3 * c]
 }
 
 // Whether the c triples behind the k elements at the front have the keys of the g triples given. The words from 36 k + 3 g on are scratch.
@@ -114,32 +87,39 @@ fn same_surface(area: &mut [u32], k: usize, c: usize, surface: &[u32], g: usize)
     same_triples(area, p, q, g)
 }
 
-// The surface that was found, its triples behind the k elements, unless its keys are not those of the g triples given: 23.
-fn test_keys(area: &mut [u32], k: usize, found: Outcome, surface: &[u32], g: usize) -> Outcome
+// The surface's c triples behind the k elements, refused where their keys are not those of the g triples given.
+fn test_keys(
+    area: &mut [u32],
+    k: usize,
+    c: usize,
+    surface: &[u32],
+    g: usize,
+) -> Result<usize, Refusal>
     requires { (k ≤ 65536) × (g ≤ 65536) × (36 * k + 18 * g ≤ length area.old) × (3 * g ≤ length surface.now) }
-    ensures value { result ≡ keyed_outcome k g found area.old surface.now }
+    ensures value { outcome_of result ≡ keyed_outcome k g (Surface c) area.old surface.now }
     ensures same { Same area.old area.new (36 * k + 3 * g) (length area.old) }
 {
-    match found {
-        Outcome::Surface(c) => {
-            if same_surface(area, k, c, surface, g) {
-                return Outcome::Surface(c);
-            }
-            Outcome::Refused(23)
-        }
-        Outcome::Refused(number) => Outcome::Refused(number),
+    if same_surface(area, k, c, surface, g) {
+        Ok(c)
+    } else {
+        Err(Refusal::Changed)
     }
 }
 
-// The boundary of the k elements at the front, its triples behind them, or the number of the refusal: 16, 17, or 23 where its keys are not
-// those of the g triples given.
-pub(crate) fn flip_surface(area: &mut [u32], k: usize, surface: &[u32], g: usize) -> Outcome
+// The boundary of the k elements at the front, its triples behind them; refused by the first bad key, or where its keys are not those of the
+// g triples given.
+pub(crate) fn flip_surface(
+    area: &mut [u32],
+    k: usize,
+    surface: &[u32],
+    g: usize,
+) -> Result<usize, Refusal>
     requires { (area_fits k (36 * k) ≡ true) × (k ≤ 65536) × (g ≤ 65536) × (36 * k + 18 * g ≤ length area.old) × (3 * g ≤ length surface.now) }
-    ensures { SurfaceEnded k g surface.now area.old area.new result }
+    ensures { SurfaceEnded k g surface.now area.old area.new (outcome_of result) }
 {
     let e = 36 * k;
-    let found = boundary_in(&mut area[0..e], k);
-    test_keys(area, k, found, surface, g)
+    let c = boundary_in(&mut area[0..e], k)?;
+    test_keys(area, k, c, surface, g)
 }
 
 // Puts the k elements at the front of the area and the c triples behind them over the first of the buffers.
@@ -148,13 +128,12 @@ fn commit_flip(area: &[u32], k: usize, c: usize, elements: &mut [u32], surface: 
     ensures { (elements.new ≡ over (take (4 * k) area.now) elements.old)
         × (surface.new ≡ over (take (3 * c) (drop (4 * k) area.now)) surface.old) }
 {
-    let m = 4 * k;
-    copy_into(area, 0, elements, 0, m);
-    copy_into(area, m, surface, 0, 3 * c);
+    copy_into(area, 0, elements, 0, 4 * k);
+    copy_into(area, 4 * k, surface, 0, 3 * c);
 }
 
 // The end of `flip` for the k elements at the front of the area: done with the count and the new elements and surface in the buffers, or
-// refused with 16, 17 or 23 and the buffers as they were.
+// refused and the buffers as they were.
 pub(crate) fn finish_flip(
     sizes: Sizes,
     count: usize,
@@ -162,24 +141,19 @@ pub(crate) fn finish_flip(
     elements: &mut [u32],
     surface: &mut [u32],
     area: &mut [u32],
-) -> Answer
+) -> Result<Made, Refusal>
     requires { EndRoom k sizes.triples (length elements.old) (length surface.old) (length area.old) }
-    ensures { ◌≡◌ {A = Answer × List ℕ × List ℕ} (result, elements.new, surface.new)
+    ensures { ◌≡◌ {A = Answer × List ℕ × List ℕ} (answer_of result, elements.new, surface.new)
         (flip_end count sizes.vertices (triples sizes.triples surface.old) (tets k area.old) elements.old surface.old) }
 {
-    let found = flip_surface(area, k, surface, sizes.triples);
-    match found {
-        Outcome::Surface(c) => {
-            commit_flip(area, k, c, elements, surface);
-            Answer::Done {
-                count: count,
-                sizes: Sizes {
-                    vertices: sizes.vertices,
-                    elements: k,
-                    triples: c,
-                },
-            }
-        }
-        Outcome::Refused(number) => Answer::Refused(number),
-    }
+    let c = flip_surface(area, k, surface, sizes.triples)?;
+    commit_flip(area, k, c, elements, surface);
+    Ok(Made {
+        count,
+        sizes: Sizes {
+            elements: k,
+            triples: c,
+            ..sizes
+        },
+    })
 }

@@ -26,7 +26,7 @@ pub(crate) fn flip_layout(nv: u32, n: u32) -> Index
         slots: 0,
         nexts: 24 * k,
         heads: 48 * k,
-        lengths: lengths,
+        lengths,
         area: lengths + v + 76 * k,
         room: 6 * n,
         vertices: nv,

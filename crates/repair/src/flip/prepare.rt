@@ -65,7 +65,7 @@ pub(crate) fn begin_flip(
     let l = lay_edges(work, x, n, points, elements);
     lay_slots(work, x, n, elements);
     Lists {
-        faces: faces,
+        faces,
         bad: l.elements,
         edges: l.rows,
     }

@@ -5,83 +5,65 @@ ghost use Rattle.mesh.specs.Tests.{every};
 ghost use Rattle.mesh.specs.Intake.{well_numbered};
 ghost use Rattle.mesh.specs.Measure.{measure};
 ghost use Rattle.repair.specs.Flip as def;
-ghost use Rattle.repair.specs.inside.flip.Trio.{elements_of};
 ghost use Rattle.repair.specs.inside.flip.Layout.{Kept};
-ghost use Rattle.repair.specs.inside.flip.Tries.{Holds, Counted, Counts, Old, places_of};
+ghost use Rattle.repair.specs.inside.flip.Tries.{Holds, Counted, Counts, Old};
 ghost use Rattle.repair.specs.inside.flip.Replace.{Empties, Adds};
 
-use crate::flip::counts::{Places, Tried};
-use crate::flip::orient::{Trio, is_accepted, orient};
+use crate::flip::counts::Tried;
+use crate::flip::orient::{is_accepted, orient};
 use crate::flip::slots::{add_slot, empty_slot};
+use mesh::element::Tet;
 use mesh::star::Index;
 
-// How many elements these are.
-fn size(u: Trio) -> u32
-    ensures { (result ≡ length (elements_of u)) × (2 ≤ result) × (result ≤ 3) }
-{
-    if u.count != 3 {
-        return 2;
-    }
-    3
-}
-
-// Empties two slots, or three where `count` is 3.
-fn empty_slots(work: &mut [u32], x: Index, count: usize, at: Places)
+// Empties the slots with these numbers.
+fn empty_slots(work: &mut [u32], x: Index, at: &[u32])
     requires { x.slots ≤ 1048576 }
-    ensures { Empties x (places_of count at) work.old work.new }
+    ensures { Empties x at.now work.old work.new }
 {
-    empty_slot(work, x, at.a);
-    empty_slot(work, x, at.b);
-    if count != 3 {
-        return;
+    for e in at {
+        empty_slot(work, x, *e);
     }
-    empty_slot(work, x, at.c);
 }
 
 // Adds a slot for each of the elements, behind the first c slots.
-fn add_slots(work: &mut [u32], x: Index, c: u32, new: Trio)
-    requires { (x.slots ≤ 1048576) × (c + 2 ≤ 131072) }
-    ensures { Adds x c (elements_of new) work.old work.new }
+fn add_slots(work: &mut [u32], x: Index, c: u32, new: &[Tet])
+    requires { (x.slots ≤ 1048576) × (c + length new.now ≤ 131072) }
+    ensures { Adds x c new.now work.old work.new }
 {
-    let a = new.a;
-    let b = new.b;
-    let d = new.c;
-    add_slot(work, x, c, a);
-    add_slot(work, x, c + 1, b);
-    if new.count != 3 {
-        return;
+    for (i, t) in new.iter().enumerate() {
+        add_slot(work, x, c + i as u32, *t);
     }
-    add_slot(work, x, c + 2, d);
 }
 
-// Puts the candidates, oriented, in the place of the old elements in these slots, where they are accepted.
+// Orients the candidates, and puts them in the place of the old elements in these slots where they are accepted.
 pub(crate) fn replace(
     work: &mut [u32],
     x: Index,
     t: Tried,
-    at: Places,
-    old: Trio,
-    candidates: Trio,
+    at: &[u32],
+    old: &[Tet],
+    candidates: &mut [Tet],
     points: &[f64],
 ) -> Tried
-    requires { Counted x t }
-    ensures by_index { (n : ℕ) (s : def.State) → Holds x n t work.old s → Old at old s
-        → every (well_numbered x.vertices) (elements_of candidates) ≡ true → t.slots + length (elements_of candidates) ≤ x.room
-        → Holds x n result work.new (def.replace (measure (points_of x.vertices points.now)) s (places_of old.count at) (elements_of candidates))
+    requires counted { Counted x t }
+    requires few { (length old.now ≤ 3) × (length candidates.old ≤ 3) }
+    ensures by_index { (n : ℕ) (s : def.State) → Holds x n t work.old s → Old at.now old.now s
+        → every (well_numbered x.vertices) candidates.old ≡ true → t.slots + length candidates.old ≤ x.room
+        → Holds x n result work.new (def.replace (measure (points_of x.vertices points.now)) s at.now candidates.old)
         × Kept x work.old work.new }
     ensures counts { Counts t result }
 {
     let nv = x.vertices as usize;
-    let new = orient(points, nv, candidates);
-    if !is_accepted(points, nv, old, new) {
+    orient(points, nv, candidates);
+    if !is_accepted(points, nv, old, candidates) {
         return t;
     }
-    let more = size(new);
+    let more = candidates.len() as u32;
     if x.room < t.slots + more {
         return t;
     }
-    empty_slots(work, x, old.count, at);
-    add_slots(work, x, t.slots, new);
+    empty_slots(work, x, at);
+    add_slots(work, x, t.slots, candidates);
     Tried {
         slots: t.slots + more,
         flips: t.flips + 1,

@@ -15,13 +15,13 @@ pub(crate) fn empty_slot(work: &mut [u32], x: Index, e: u32)
     ensures { (n c : ℕ) (s : State) → e < c → SlotsStand x n c work.old s
         → SlotsStand x n c work.new (record { slots = set s.slots e none; flips = s.flips }) × Kept x work.old work.new }
 {
-    let t = Tet {
+    let gone = Tet {
         a: GONE,
         b: GONE,
         c: GONE,
         d: GONE,
     };
-    put_slot(work, x, e, t);
+    put_slot(work, x, e, gone);
 }
 
 // Adds a slot with the element t behind the first c.

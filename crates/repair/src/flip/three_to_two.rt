@@ -5,15 +5,13 @@ ghost use Rattle.mesh.specs.Element.{tet, vertices_of};
 ghost use Rattle.mesh.specs.Link.{without};
 ghost use Rattle.mesh.specs.Measure.{measure};
 ghost use Rattle.repair.specs.Flip.{State, try_edge};
-ghost use Rattle.repair.specs.inside.flip.Trio.{elements_of};
 ghost use Rattle.repair.specs.inside.flip.Layout.{EdgesBound};
 ghost use Rattle.repair.specs.inside.flip.Tries.{Holds, Counted, Counts, Went, EdgeListed, edge_row};
-ghost use Rattle.repair.specs.inside.flip.ThreeToTwo.{trio_in, three_of, others_of, Puts, ListedAt};
+ghost use Rattle.repair.specs.inside.flip.ThreeToTwo.{three_in, others_of, Puts, ListedAt};
 
-use crate::flip::counts::{Places, Tried};
+use crate::flip::counts::Tried;
 use crate::flip::find::{any_live, list_both};
 use crate::flip::layout::triple_from;
-use crate::flip::orient::Trio;
 use crate::flip::replace::replace;
 use crate::slots::slot;
 use mesh::element::{Pair, Tet, Triple};
@@ -22,16 +20,11 @@ use mesh::star::Index;
 use mesh::words::put_word;
 
 // The elements in the slots with the three numbers of f.
-fn elements_in(work: &[u32], x: Index, f: Triple) -> Trio
+fn elements_in(work: &[u32], x: Index, f: Triple) -> [Tet; 3]
     requires { x.slots ≤ 1048576 }
-    ensures { result ≡ trio_in x work.now f }
+    ensures { result ≡ three_in x work.now f }
 {
-    Trio {
-        count: 3,
-        a: slot(work, x, f.a),
-        b: slot(work, x, f.b),
-        c: slot(work, x, f.c),
-    }
+    [slot(work, x, f.a), slot(work, x, f.b), slot(work, x, f.c)]
 }
 
 // Puts v at k unless it is a vertex of e, and gives the place behind.
@@ -40,10 +33,7 @@ fn put_other(area: &mut [u32], k: usize, v: u32, e: Pair) -> usize
     ensures puts { Puts area.old k (without (edge_row e) (v ∷ [])) result area.new }
     ensures upper_bound { result ≤ k + 1 }
 {
-    if v == e.a {
-        return k;
-    }
-    if v == e.b {
+    if v == e.a || v == e.b {
         return k;
     }
     put_word(area, k, v);
@@ -56,64 +46,49 @@ fn put_others(area: &mut [u32], k: usize, t: Tet, e: Pair) -> usize
     ensures puts { Puts area.old k (without (edge_row e) (vertices_of t)) result area.new }
     ensures upper_bound { result ≤ k + 4 }
 {
-    let i = put_other(area, k, t.a, e);
-    let j = put_other(area, i, t.b, e);
-    let l = put_other(area, j, t.c, e);
-    put_other(area, l, t.d, e)
+    let mut n = k;
+    for v in [t.a, t.b, t.c, t.d] {
+        n = put_other(area, n, v, e);
+    }
+    n
 }
 
-// Lists the vertices of the three elements that are none of e, in order, each once, at the front, and gives how many.
-fn others(area: &mut [u32], old: Trio, e: Pair) -> usize
-    requires { 24 ≤ length area.old }
-    ensures { (result ≡ length (others_of e (three_of old))) × (take result area.new ≡ others_of e (three_of old)) }
+// Lists the vertices of the elements that are none of e, in order, each once, at the front, and gives how many.
+fn others(area: &mut [u32], old: &[Tet], e: Pair) -> usize
+    requires { (length old.now ≤ 3) × (24 ≤ length area.old) }
+    ensures { (result ≡ length (others_of e old.now)) × (take result area.new ≡ others_of e old.now) }
 {
-    let a = old.a;
-    let b = old.b;
-    let c = old.c;
-    let i = put_others(area, 0, a, e);
-    let j = put_others(area, i, b, e);
-    let n = put_others(area, j, c, e);
+    let mut n = 0;
+    for t in old {
+        n = put_others(area, n, *t, e);
+    }
     sort_rows(area, n, 1);
     unique_rows(area, n, 1)
 }
 
 // Lists those vertices at the area's front, where the area has 24 words, and gives how many.
-fn list_others(work: &mut [u32], x: Index, old: Trio, e: Pair) -> usize
-    ensures { x.area + 24 ≤ length work.old → ListedAt x.area (others_of e (three_of old)) work.old work.new result }
+fn list_others(work: &mut [u32], x: Index, old: &[Tet], e: Pair) -> usize
+    requires { length old.now ≤ 3 }
+    ensures { x.area + 24 ≤ length work.old → ListedAt x.area (others_of e old.now) work.old work.new result }
 {
     let a = x.area;
-    if work.len() < a {
+    if work.len() < a || work.len() - a < 24 {
         return 0;
     }
-    let b = a + 24;
-    if work.len() < b {
-        return 0;
-    }
-    others(&mut work[a..b], old, e)
+    others(&mut work[a..a + 24], old, e)
 }
 
 // The two elements with the face f and a vertex of the edge e each.
-fn candidates(f: Triple, e: Pair) -> Trio
-    ensures { elements_of result ≡ tet f.a f.b f.c e.a ∷ tet f.a f.b f.c e.b ∷ [] }
+fn candidates(f: Triple, e: Pair) -> [Tet; 2]
+    ensures { result ≡ tet f.a f.b f.c e.a ∷ tet f.a f.b f.c e.b ∷ [] }
 {
-    let a = Tet {
+    let t = Tet {
         a: f.a,
         b: f.b,
         c: f.c,
         d: e.a,
     };
-    let b = Tet {
-        a: f.a,
-        b: f.b,
-        c: f.c,
-        d: e.b,
-    };
-    Trio {
-        count: 2,
-        a: a,
-        b: b,
-        c: b,
-    }
+    [t, Tet { d: e.b, ..t }]
 }
 
 // Tries the edge e.
@@ -129,7 +104,7 @@ pub(crate) fn try_edge(work: &mut [u32], x: Index, t: Tried, e: Pair, points: &[
     }
     let i = triple_from(work, x.area);
     let old = elements_in(work, x, i);
-    let m = list_others(work, x, old, e);
+    let m = list_others(work, x, &old, e);
     if m != 3 {
         return t;
     }
@@ -137,11 +112,6 @@ pub(crate) fn try_edge(work: &mut [u32], x: Index, t: Tried, e: Pair, points: &[
     if any_live(work, x, f.a, f.b, f.c) {
         return t;
     }
-    let at = Places {
-        a: i.a,
-        b: i.b,
-        c: i.c,
-    };
-    let new = candidates(f, e);
-    replace(work, x, t, at, old, new, points)
+    let mut new = candidates(f, e);
+    replace(work, x, t, &[i.a, i.b, i.c], &old, &mut new, points)
 }

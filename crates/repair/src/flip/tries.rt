@@ -1,4 +1,6 @@
 // The listed faces and edges of `flip`, tried one after the other.
+// Kept by hand: two functions, one for faces and one for edges. A generic one would take where the rows begin, how long one is and a closure
+// that reads and tries one, and share only the `for` line; the new form is no plainer.
 ghost use Rattle.std.specs.Prelude.{◌≡◌, List, map, ◌*◌, ◌≤◌, length, drop};
 ghost use Rattle.mesh.specs.declared.element.Pair.{Pair};
 ghost use Rattle.mesh.specs.declared.element.Triple.{Triple};
@@ -29,14 +31,12 @@ pub(crate) fn try_faces(work: &mut [u32], x: Index, n: u32, count: usize, points
 {
     let start = faces_at(x) + 4 * (n as usize);
     let mut t = Tried { slots: n, flips: 0 };
-    let mut i = 0;
-    while i < count {
+    for i in 0..count {
         let p = start + 5 * i;
         let f = triple_from(work, p);
         let a = word(work, p + 3);
         let b = word(work, p + 4);
         t = try_face(work, x, t, f, a, b, points);
-        i += 1;
     }
     t
 }
@@ -59,15 +59,13 @@ pub(crate) fn try_edges(
 {
     let start = edges_at(x, n) + 4 * (n as usize) + 4 * bad;
     let mut r = t;
-    let mut i = 0;
-    while i < count {
+    for i in 0..count {
         let p = start + 2 * i;
         let e = Pair {
             a: word(work, p),
             b: word(work, p + 1),
         };
         r = try_edge(work, x, r, e, points);
-        i += 1;
     }
     r
 }

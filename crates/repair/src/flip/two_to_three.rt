@@ -6,13 +6,11 @@ ghost use Rattle.mesh.specs.Element.{tet, vertices_of, corners_of};
 ghost use Rattle.mesh.specs.Link.{without};
 ghost use Rattle.mesh.specs.Measure.{measure};
 ghost use Rattle.repair.specs.Flip.{State, try_face};
-ghost use Rattle.repair.specs.inside.flip.Trio.{elements_of};
 ghost use Rattle.repair.specs.inside.flip.Layout.{FacesBound};
 ghost use Rattle.repair.specs.inside.flip.Tries.{Holds, Counted, Counts, Went, Start, FaceListed};
 
-use crate::flip::counts::{Places, Tried};
+use crate::flip::counts::Tried;
 use crate::flip::find::any_live;
-use crate::flip::orient::Trio;
 use crate::flip::replace::replace;
 use crate::slots::slot;
 use mesh::element::{Tet, Triple, is_corner};
@@ -22,43 +20,37 @@ use mesh::star::{GONE, Index};
 fn apex(t: Tet, f: Triple) -> u32
     ensures { result ≡ get_or (without (corners_of f) (vertices_of t)) 0 t.d }
 {
-    if !is_corner(f, t.a) {
-        return t.a;
-    }
-    if !is_corner(f, t.b) {
-        return t.b;
-    }
-    if !is_corner(f, t.c) {
-        return t.c;
-    }
-    t.d
+    [t.a, t.b, t.c]
+        .iter()
+        .copied()
+        .find(|v| !is_corner(f, *v))
+        .unwrap_or(t.d)
 }
 
 // The elements of the edge a b and each edge of f.
-fn three_about(f: Triple, a: u32, b: u32) -> Trio
-    ensures { elements_of result ≡ tet a b f.a f.b ∷ tet a b f.b f.c ∷ tet a b f.c f.a ∷ [] }
+fn three_about(f: Triple, a: u32, b: u32) -> [Tet; 3]
+    ensures { result ≡ tet a b f.a f.b ∷ tet a b f.b f.c ∷ tet a b f.c f.a ∷ [] }
 {
-    Trio {
-        count: 3,
-        a: Tet {
-            a: a,
-            b: b,
+    [
+        Tet {
+            a,
+            b,
             c: f.a,
             d: f.b,
         },
-        b: Tet {
-            a: a,
-            b: b,
+        Tet {
+            a,
+            b,
             c: f.b,
             d: f.c,
         },
-        c: Tet {
-            a: a,
-            b: b,
+        Tet {
+            a,
+            b,
             c: f.c,
             d: f.a,
         },
-    }
+    ]
 }
 
 // Tries the face f, which of the elements at the start i and j have.
@@ -77,6 +69,8 @@ pub(crate) fn try_face(
         × Start ts (try_face (measure (points_of x.vertices points.now)) ts s f) }
     ensures counts { Counts t result }
 {
+    // Kept by hand: GONE in place of an Option. The slots are words that mesh indexes, and `slot` serves `improve` too, which writes an
+    // element that is gone back as it is; the fixed memory of the index needs the word.
     let p = slot(work, x, i);
     let q = slot(work, x, j);
     if p.a == GONE {
@@ -90,13 +84,6 @@ pub(crate) fn try_face(
     if any_live(work, x, a, b, b) {
         return t;
     }
-    let at = Places { a: i, b: j, c: j };
-    let old = Trio {
-        count: 2,
-        a: p,
-        b: q,
-        c: q,
-    };
-    let new = three_about(f, a, b);
-    replace(work, x, t, at, old, new, points)
+    let mut new = three_about(f, a, b);
+    replace(work, x, t, &[i, j], &[p, q], &mut new, points)
 }

@@ -56,11 +56,9 @@ fn replace_in_slots(work: &mut [u32], x: Index, p: usize, k: usize, a: u32, b: u
     ensures { work.new ≡ slots_replaced x a b k p work.old }
 {
     let e = p + k;
-    let mut q = p;
-    while q < e {
+    for q in p..e {
         let s = word(work, q);
         replace_in_slot(work, x, s, a, b);
-        q += 1;
     }
 }
 
@@ -76,13 +74,11 @@ pub(crate) fn replace_one(work: &mut [u32], x: Index, a: u32, b: u32)
     requires { Room x x.room (length work.old) }
     ensures { Goes x x.room a b work.old work.new }
 {
-    if a == b {
-        flag(work, x, a);
-        return;
+    if a != b {
+        let k = star(work, x, a, a);
+        replace_in_slots(work, x, x.area, k, a, b);
+        join(work, x, b, a);
     }
-    let k = star(work, x, a, a);
-    replace_in_slots(work, x, x.area, k, a, b);
-    join(work, x, b, a);
     flag(work, x, a);
 }
 
@@ -92,9 +88,7 @@ pub(crate) fn replace_all(work: &mut [u32], x: Index, k: usize)
     ensures { AllGo x x.room k work.old work.new }
 {
     let p = pairs_at(x);
-    let mut i = k;
-    while 0 < i {
-        i -= 1;
+    for i in (0..k).rev() {
         let a = word(work, p + 2 * i);
         let b = word(work, p + 2 * i + 1);
         replace_one(work, x, a, b);

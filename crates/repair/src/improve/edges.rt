@@ -1,10 +1,10 @@
 // The edges of a round of `improve`, listed by length. The live elements are listed first, at the front of the area behind the layout
 // (layout.rt), with scratch behind them.
-ghost use Rattle.std.specs.Prelude.{◌≡◌, ℕ, ◌+◌, ◌*◌, ◌≤◌, ◌<◌, length, Float};
+ghost use Rattle.std.specs.Prelude.{◌≡◌, ℕ, ◌*◌, ◌≤◌, length, Float};
 ghost use Rattle.geometry.specs.declared.bounds.Options.{Options};
 ghost use Rattle.geometry.specs.Float.{◌*₆₄◌};
 ghost use Rattle.geometry.specs.Literals.{three_quarters};
-ghost use Rattle.mesh.specs.Words.{word_at, points_of};
+ghost use Rattle.mesh.specs.Words.{points_of};
 ghost use Rattle.mesh.specs.Measure.{measure};
 ghost use Rattle.repair.specs.Mesh.{Mesh};
 ghost use Rattle.repair.specs.Improve.{State, listed_edges};
@@ -14,20 +14,6 @@ use crate::layout::edges_at;
 use mesh::about::live_elements;
 use mesh::short::short_edges_in;
 use mesh::star::Index;
-use mesh::words::{put_word, word};
-
-// Copies the k words from i on to d, which lies before them.
-fn copy_down(work: &mut [u32], i: usize, d: usize, k: usize)
-    requires { (d + k ≤ i) × (i + k ≤ length work.old) }
-    ensures { ((j : ℕ) → j < k → word_at work.new (d + j) ≡ word_at work.old (i + j)) × Same work.old work.new d (d + k) }
-{
-    let mut j = 0;
-    while j < k {
-        let v = word(work, i + j);
-        put_word(work, d + j, v);
-        j += 1;
-    }
-}
 
 // Lists the edges of bad elements shorter than `limit`, by length then numbers, in the edges' area, and gives how many.
 pub(crate) fn list_edges(work: &mut [u32], x: Index, points: &[f64], limit: f64) -> usize
@@ -41,6 +27,8 @@ pub(crate) fn list_edges(work: &mut [u32], x: Index, points: &[f64], limit: f64)
     let k = live_elements(work, x, x.room as usize);
     let e = a + 52 * k;
     let r = short_edges_in(&mut work[a..e], k, points, x.vertices as usize, limit);
-    copy_down(work, a + 4 * k, edges_at(x), 4 * r);
+    let from = a + 4 * k;
+    let to = from + 4 * r;
+    work.copy_within(from..to, edges_at(x));
     r
 }

@@ -12,14 +12,16 @@ ghost use Rattle.mesh.specs.Tests.{every};
 ghost use Rattle.mesh.specs.Element.{tets, all_vertices};
 ghost use Rattle.mesh.specs.Words.{word_at, point_in};
 ghost use Rattle.mesh.specs.inside.Manifold.{KeptBelow};
-ghost use Rattle.repair.specs.declared.answer.Answer.{Answer};
-ghost use Rattle.repair.specs.Step.{State, sizes_after, floats_of};
+ghost use Rattle.mesh.specs.Surface.{Surface, outcome_of};
+ghost use Rattle.repair.specs.Answer.{answer_of};
+ghost use Rattle.repair.specs.Step.{Answer, State, sizes_after, floats_of};
 ghost use Rattle.repair.specs.inside.improve.Renumber.{improve_end, EndArea, EndBuffers, used_at, numbered_at, met_at, Unmet, Numbered, Renumbered, tested_outcome, tested_part, Ended, listed, moved_points, moved_masks, MeshRoom, moved_in};
 
-use crate::answer::Answer;
-use mesh::boundary::{Outcome, boundary_in};
+use crate::answer::Made;
+use mesh::boundary::boundary_in;
 use mesh::intake::Sizes;
 use mesh::manifold::nonmanifold_in;
+use mesh::refusal::Refusal;
 use mesh::vertex::point_at;
 use mesh::words::{clear, copy_floats_into, copy_into, put_float, put_word, word};
 
@@ -38,10 +40,11 @@ fn number_word(area: &mut [u32], p: usize, marks: usize, used: usize, count: u32
         put_word(area, q, count + 1);
         put_word(area, used + count as usize, v);
         put_word(area, p, count);
-        return count + 1;
+        count + 1
+    } else {
+        put_word(area, p, mark - 1);
+        count
     }
-    put_word(area, p, mark - 1);
-    count
 }
 
 // Writes the new numbers of the vertices of the k elements at the front, and gives how many vertices they are.
@@ -52,10 +55,8 @@ fn number_words(area: &mut [u32], k: usize, nv: usize) -> u32
     let m = 4 * k;
     let used = END_WORDS * k + nv;
     let mut count: u32 = 0;
-    let mut p = 0;
-    while p < m {
+    for p in 0..m {
         count = number_word(area, p, m, used, count);
-        p += 1;
     }
     count
 }
@@ -68,36 +69,31 @@ fn renumber(area: &mut [u32], k: usize, nv: usize) -> usize
     let m = 4 * k;
     let e = m + nv;
     clear(&mut area[m..e]);
-    let n = number_words(area, k, nv);
-    n as usize
+    number_words(area, k, nv) as usize
 }
 
-// The surface that was found, its triples from m on, unless it has a nonmanifold vertex: 22.
-fn test_surface(area: &mut [u32], m: usize, e: usize, found: Outcome) -> Outcome
+// The surface of the c triples from m on, refused where it has a nonmanifold vertex.
+fn test_surface(area: &mut [u32], m: usize, e: usize, c: usize) -> Result<usize, Refusal>
     requires { (m ≤ e) × (e ≤ length area.old) }
-    ensures { (result ≡ tested_outcome found (take (e - m) (drop m area.old))) ×
-        (area.new ≡ take m area.old ++ (tested_part found (take (e - m) (drop m area.old)) ++ drop (e - m) (drop m area.old))) }
+    ensures { (outcome_of result ≡ tested_outcome (Surface c) (take (e - m) (drop m area.old))) ×
+        (area.new ≡ take m area.old ++ (tested_part (Surface c) (take (e - m) (drop m area.old)) ++ drop (e - m) (drop m area.old))) }
 {
-    match found {
-        Outcome::Surface(c) => {
-            if nonmanifold_in(&mut area[m..e], c) {
-                return Outcome::Refused(22);
-            }
-            Outcome::Surface(c)
-        }
-        Outcome::Refused(number) => Outcome::Refused(number),
+    if nonmanifold_in(&mut area[m..e], c) {
+        Err(Refusal::Nonmanifold)
+    } else {
+        Ok(c)
     }
 }
 
-// The boundary of the k elements at the front, its triples behind them, or the number of the refusal: 16, 17 or 22.
-fn end_surface(area: &mut [u32], k: usize, nv: usize) -> Outcome
+// The boundary of the k elements at the front, its triples behind them, refused by the first bad key or by a nonmanifold vertex.
+fn end_surface(area: &mut [u32], k: usize, nv: usize) -> Result<usize, Refusal>
     requires { (k ≤ 16384) × (nv ≤ 4096) × (used_at k nv ≤ length area.old) × (every (λ v. ltb v nv) (all_vertices (tets k area.old)) ≡ true) }
-    ensures { Ended k nv area.old area.new result }
+    ensures { Ended k nv area.old area.new (outcome_of result) }
 {
     let m = 4 * k;
     let e = END_WORDS * k + nv;
-    let found = boundary_in(&mut area[0..e], k);
-    test_surface(area, m, e, found)
+    let c = boundary_in(&mut area[0..e], k)?;
+    test_surface(area, m, e, c)
 }
 
 // Lists the points of the n vertices whose numbers stand from `used` on.
@@ -105,14 +101,12 @@ fn list_points(floats: &mut [f64], points: &[f64], area: &[u32], used: usize, n:
     requires { (used + n ≤ length area.now) × (3 * n ≤ length floats.old) }
     ensures { take (3 * n) floats.new ≡ floats_of (map (point_in points.now) (listed used n area.now)) }
 {
-    let mut i = 0;
-    while i < n {
+    for i in 0..n {
         let v = word(area, used + i);
         let p = point_at(points, v as usize);
         put_float(floats, 3 * i, p.x);
         put_float(floats, 3 * i + 1, p.y);
         put_float(floats, 3 * i + 2, p.z);
-        i += 1;
     }
 }
 
@@ -130,12 +124,10 @@ fn list_masks(area: &mut [u32], masks: &[u32], used: usize, to: usize, n: usize)
     requires { (used + n ≤ to) × (to + n ≤ length area.old) }
     ensures { (take n (drop to area.new) ≡ map (word_at masks.now) (listed used n area.old)) × KeptBelow to area.old area.new }
 {
-    let mut i = 0;
-    while i < n {
+    for i in 0..n {
         let v = word(area, used + i);
         let x = word(masks, v as usize);
         put_word(area, to + i, x);
-        i += 1;
     }
 }
 
@@ -191,30 +183,22 @@ pub(crate) fn finish_improve(
     surface: &mut [u32],
     area: &mut [u32],
     floats: &mut [f64],
-) -> Answer
+) -> Result<Made, Refusal>
     requires { EndArea k sizes.vertices area.old × EndBuffers sizes k (length parameters.old) (length points.old) (length masks.old) (length elements.old) (length surface.old) (length floats.old) }
     ensures { ◌≡◌ {A = Answer × State}
-        (result, record { parameters = parameters.exit.now; points = points.new; masks = masks.new; elements = elements.new; surface = surface.new; sizes = sizes_after result sizes })
+        (answer_of result, record { parameters = parameters.exit.now; points = points.new; masks = masks.new; elements = elements.new; surface = surface.new; sizes = sizes_after (answer_of result) sizes })
         (improve_end count (tets k area.old) (record { parameters = parameters.entry.now; points = points.old; masks = masks.old; elements = elements.old; surface = surface.old; sizes = sizes })) }
 {
     let nv = sizes.vertices;
     let n = renumber(area, k, nv);
-    let found = end_surface(area, k, nv);
-    match found {
-        Outcome::Surface(c) => {
-            let z = Sizes {
-                vertices: n,
-                elements: k,
-                triples: c,
-            };
-            commit(
-                z, nv, parameters, points, masks, elements, surface, area, floats,
-            );
-            Answer::Done {
-                count: count,
-                sizes: z,
-            }
-        }
-        Outcome::Refused(number) => Answer::Refused(number),
-    }
+    let c = end_surface(area, k, nv)?;
+    let sizes = Sizes {
+        vertices: n,
+        elements: k,
+        triples: c,
+    };
+    commit(
+        sizes, nv, parameters, points, masks, elements, surface, area, floats,
+    );
+    Ok(Made { count, sizes })
 }

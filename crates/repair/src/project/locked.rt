@@ -19,10 +19,7 @@ pub(crate) struct Locked {
 fn is_end(v: f64, lo: f64, hi: f64) -> bool
     ensures { result ≡ (eq v lo || eq v hi) }
 {
-    if v == lo {
-        return true;
-    }
-    v == hi
+    v == lo || v == hi
 }
 
 // The directions in which p lies on lo or hi.

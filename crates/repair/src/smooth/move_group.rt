@@ -52,9 +52,7 @@ pub(crate) fn move_group(
     ensures placed { Placed s.vertices (new_parameters o s.vertices parameters.old p) (members work.now s.group s.count) parameters.old parameters.new }
     ensures placed_2 { Placed s.vertices (new_point o s.vertices parameters.old p) (members work.now s.group s.count) points.old points.new }
 {
-    let mut k = s.count;
-    while 0 < k {
-        k -= 1;
+    for k in (0..s.count).rev() {
         let v = word(work, s.group + ROW_WORDS * k);
         move_vertex(o, parameters, points, s.vertices, v, p);
     }

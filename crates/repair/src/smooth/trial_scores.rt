@@ -1,12 +1,10 @@
 // The elements about a group, measured from the points as they are and as they would be with the group moved. The group's vertices stand
 // in sorted rows (mesh, group.rt), the last word of each.
-ghost use Rattle.std.specs.Prelude.{◌≡◌, true, ◌&&◌, ◌+◌, ◌*◌, ◌≤◌};
-ghost use Rattle.std.specs.Float.Ieee.{lt};
+ghost use Rattle.std.specs.Prelude.{◌≡◌, true, false, ◌+◌, ◌*◌, ◌≤◌, MatchOption};
 ghost use Rattle.mesh.specs.Words.{point_at, points_of};
-ghost use Rattle.mesh.specs.Tests.{every};
 ghost use Rattle.mesh.specs.Measure.{measure, lowest_of, measured_of};
 ghost use Rattle.mesh.specs.Complex.{mem};
-ghost use Rattle.repair.specs.inside.smooth.Site.{InRange, about, trial_points, members};
+ghost use Rattle.repair.specs.inside.smooth.Site.{InRange, about, trial_points, members, beats};
 
 use crate::layout::ROW_WORDS;
 use crate::smooth::candidates::kept_on;
@@ -30,11 +28,15 @@ pub struct Site {
     pub about: usize,
 }
 
-// Whether every determinant is above 0 and the lowest score above a given bar, and then the lowest score.
+// What a trial reads: the mesh as it is, and the work with a group's site.
 #[derive(Clone, Copy)]
-pub struct Trial {
-    pub better: bool,
-    pub lowest: f64,
+pub(crate) struct View<'a> {
+    pub options: Options,
+    pub parameters: &'a [f64],
+    pub points: &'a [f64],
+    pub elements: &'a [u32],
+    pub work: &'a [u32],
+    pub site: Site,
 }
 
 // The lowest score about the group as it is.
@@ -43,102 +45,62 @@ pub(crate) fn lowest_about(points: &[f64], elements: &[u32], work: &[u32], s: Si
     ensures { result ≡ lowest_of (measure (points_of s.vertices points.now)) (about elements.now work.now s.area s.about) }
 {
     let mut low = 1.0;
-    let mut i = s.area;
-    let mut left = s.about;
-    while 0 < left {
+    for i in s.area..s.area + s.about {
         let t = tet_at(elements, word(work, i) as usize);
         low = smaller(low, score_of(points, s.vertices, t));
-        i += 1;
-        left -= 1;
     }
     low
 }
 
 // The point of the vertex v with the group moved to p.
-fn trial_point(
-    o: Options,
-    parameters: &[f64],
-    points: &[f64],
-    work: &[u32],
-    s: Site,
-    p: Point,
-    v: u32,
-) -> Point
-    requires { InRange s }
-    ensures { result ≡ point_at (trial_points o parameters.now points.now work.now s p) v }
+fn trial_point(x: View, p: Point, v: u32) -> Point
+    requires { InRange x.site }
+    ensures { result ≡ point_at (trial_points x.entry.options x.entry.parameters.now x.entry.points.now x.entry.work.now x.entry.site p) v }
 {
-    let q = vertex_point(points, s.vertices, v);
-    if s.vertices <= v as usize {
-        return q;
+    let s = x.site;
+    if s.vertices <= v as usize || !is_member(x.work, s.group, s.count, v) {
+        return vertex_point(x.points, s.vertices, v);
     }
-    if !is_member(work, s.group, s.count, v) {
-        return q;
-    }
-    mapped(kept_on(o, vertex_point(parameters, s.vertices, v), p))
+    mapped(kept_on(x.options, vertex_point(x.parameters, s.vertices, v), p))
 }
 
 // An element measured with the group moved to p.
-fn measure_element(
-    o: Options,
-    parameters: &[f64],
-    points: &[f64],
-    work: &[u32],
-    s: Site,
-    p: Point,
-    t: Tet,
-) -> Measured
-    requires { InRange s }
-    ensures { result ≡ measured_of (trial_points o parameters.now points.now work.now s p) t }
+fn measure_element(x: View, p: Point, t: Tet) -> Measured
+    requires { InRange x.site }
+    ensures { result ≡ measured_of (trial_points x.entry.options x.entry.parameters.now x.entry.points.now x.entry.work.now x.entry.site p) t }
 {
-    let a = trial_point(o, parameters, points, work, s, p, t.a);
-    let b = trial_point(o, parameters, points, work, s, p, t.b);
-    let c = trial_point(o, parameters, points, work, s, p, t.c);
-    let d = trial_point(o, parameters, points, work, s, p, t.d);
+    let a = trial_point(x, p, t.a);
+    let b = trial_point(x, p, t.b);
+    let c = trial_point(x, p, t.c);
+    let d = trial_point(x, p, t.d);
     measured_at(a, b, c, d)
 }
 
-// The elements about the group with it moved to p. It stops at a determinant that is not above 0, and where the lowest score so far is not above `bar`.
-pub(crate) fn try_point(
-    o: Options,
-    parameters: &[f64],
-    points: &[f64],
-    elements: &[u32],
-    work: &[u32],
-    s: Site,
-    p: Point,
-    bar: f64,
-) -> Trial
-    requires { InRange s }
-    ensures better_value { result.better ≡ (every (measure (trial_points o parameters.now points.now work.now s p)).above (about elements.now work.now s.area s.about)
-        && lt bar (lowest_of (measure (trial_points o parameters.now points.now work.now s p)) (about elements.now work.now s.area s.about))) }
-    ensures lowest_value { result.better ≡ true → result.lowest ≡ lowest_of (measure (trial_points o parameters.now points.now work.now s p)) (about elements.now work.now s.area s.about) }
+// The lowest score about the group with it moved to p, if it is above `bar` and every determinant is above 0. It stops at a determinant
+// that is not above 0, and where the lowest score so far is not above `bar`.
+pub(crate) fn try_point(x: View, p: Point, bar: f64) -> Option<f64>
+    requires { InRange x.site }
+    ensures { let ps = trial_points x.entry.options x.entry.parameters.now x.entry.points.now x.entry.work.now x.entry.site p in
+        let ts = about x.entry.elements.now x.entry.work.now x.entry.site.area x.entry.site.about in
+        MatchOption result (beats ts ps bar ≡ false) (λ low. (beats ts ps bar ≡ true) × (low ≡ lowest_of (measure ps) ts)) }
 {
+    let s = x.site;
     let mut low = 1.0;
-    let mut i = s.area;
-    let mut left = s.about;
-    while 0 < left {
-        let t = tet_at(elements, word(work, i) as usize);
-        let m = measure_element(o, parameters, points, work, s, p, t);
+    for i in s.area..s.area + s.about {
+        let t = tet_at(x.elements, word(x.work, i) as usize);
+        let m = measure_element(x, p, t);
         if !m.above {
-            return Trial {
-                better: false,
-                lowest: low,
-            };
+            return None;
         }
         low = smaller(low, m.score);
         if !(bar < low) {
-            return Trial {
-                better: false,
-                lowest: low,
-            };
+            return None;
         }
-        i += 1;
-        left -= 1;
     }
-    Trial {
-        better: bar < low,
-        lowest: low,
+    if !(bar < low) {
+        return None;
     }
+    Some(low)
 }
 
 // Whether v is one of the `count` vertices of the group whose first vertex stands at `at`.
@@ -146,14 +108,10 @@ pub(crate) fn is_member(work: &[u32], at: usize, count: usize, v: u32) -> bool
     requires { at + 7 * count ≤ 4294967296 }
     ensures { result ≡ mem v (members work.now at count) }
 {
-    let mut i = at;
-    let mut left = count;
-    while 0 < left {
-        if v == word(work, i) {
+    for k in 0..count {
+        if v == word(work, at + ROW_WORDS * k) {
             return true;
         }
-        i += ROW_WORDS;
-        left -= 1;
     }
     false
 }

@@ -10,8 +10,8 @@ use Rattle.mesh.specs.Complex.{mem}
 use Rattle.mesh.proofs.Laws.Bools.{split}
 use Rattle.mesh.proofs.Laws.Complex.Sets.{out-head, out-tail}
 use Rattle.repair.specs.Step.{mesh_of}
-use Rattle.report.specs.declared.run.Ran.{Ran}
-use Rattle.report.specs.declared.run.Ran.TheVariants.{Finished, Stopped}
+use Rattle.report.specs.Run.{Ran}
+use Rattle.report.specs.Run.{Finished, Stopped}
 use Rattle.report.specs.Block.{Reading, refused, read, reading}
 use Rattle.report.specs.Run.{run_passes}
 use Rattle.report.specs.Table.{digits, decimal, signed, vertices_word, elements_word, collapse_word, move_word, reconnect_word, low_word, euler_word, inside_word, refused_word, space, line_end, refused_text, sizes_line, counts_line, state_line, inside_line, inside_lines, element_lines, Table, table_text}

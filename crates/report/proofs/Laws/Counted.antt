@@ -13,8 +13,8 @@ use Rattle.mesh.specs.Element.{tets, vertices_of}
 use Rattle.mesh.specs.inside.Euler.{counts_of, alternating_of}
 use Rattle.mesh.proofs.Laws.Intake.Reads.{length-points}
 use Rattle.mesh.proofs.Laws.Euler.Faces.{alternating-counts}
-use Rattle.repair.specs.declared.answer.Answer.{Answer}
-use Rattle.repair.specs.declared.answer.Answer.TheVariants.{Done, Refused}
+use Rattle.repair.specs.Step.{Answer}
+use Rattle.repair.specs.Step.{Done, Refused}
 use Rattle.repair.specs.Mesh.{Mesh, Result, made, refused}
 use Rattle.repair.specs.Step.{State, Pass, Call, mesh_of, committed, lengths_of, given, result_of, finish, step}
 use Rattle.repair.proofs.Laws.Improve.Points.{points_near}
@@ -22,8 +22,8 @@ use Rattle.repair.proofs.Laws.Improve.Intake.{intake-passed}
 use Rattle.repair.proofs.Laws.Improve.Buffers.{intake-sound, committed-elements}
 use Rattle.repair.proofs.Laws.Improve.Calls.{outcome, outcome-made}
 use Rattle.repair.proofs.Laws.Flip.Pass.{flip-keeps}
-use Rattle.report.specs.declared.run.Ran.{Ran}
-use Rattle.report.specs.declared.run.Ran.TheVariants.{Finished, Stopped}
+use Rattle.report.specs.Run.{Ran}
+use Rattle.report.specs.Run.{Finished, Stopped}
 use Rattle.report.specs.Run.{Setting, call_in, after, called, run_flip, run_smooth, run_passes, sizes_left}
 use Rattle.report.specs.Table.{low_count, inside_count, table_text, refused_text}
 use Rattle.report.specs.inside.Written.{Written, Ready}

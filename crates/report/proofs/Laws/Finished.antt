@@ -20,8 +20,8 @@ use Rattle.mesh.proofs.Laws.Manifold.Corners.{every-get_or}
 use Rattle.repair.specs.Mesh.{Result, refused}
 use Rattle.repair.specs.Step.{State, Pass, over, lengths_of, given, mesh_of, result_of, finish, step}
 use Rattle.repair.proofs.Laws.Improve.Intake.{intake-passed}
-use Rattle.report.specs.declared.run.Ran.{Ran}
-use Rattle.report.specs.declared.run.Ran.TheVariants.{Finished, Stopped}
+use Rattle.report.specs.Run.{Ran}
+use Rattle.report.specs.Run.{Finished, Stopped}
 use Rattle.report.specs.Block.{Plot}
 use Rattle.report.specs.Write.{Exact, PointIsNumber, FieldIsNumber, NoNan}
 use Rattle.report.specs.Run.{Setting, call_in, after, called, run_smooth, run_passes}

@@ -1,6 +1,11 @@
 -- The kinds of the fields, one by one. Assumes nothing.
 use Rattle.std.proofs.Common.{◌≡◌, ℕ, suc, ◌+◌, ◌-◌, ◌<◌, ◌≤◌, Bool, true, false, leb, List, sym, arith, le-leb}
 use borrow.Author.Tests.{lt-leb}
+use Rattle.std.specs.Prelude.{Result, Ok, Err}
+use Rattle.std.specs.Result.{is_ok, result_unwrap_or}
+use Rattle.geometry.specs.declared.field.Kind.{Kind}
+use Rattle.geometry.specs.declared.field.UnknownKind.{UnknownKind}
+use Rattle.geometry.specs.Field.{NumberOf}
 use Rattle.mesh.specs.Words.{numbers}
 use Rattle.mesh.specs.Tests.{every}
 use Rattle.report.specs.Format.{field_places, ball_kind}
@@ -40,3 +45,30 @@ kinds-unknown s n e h f = let g : fields_in s ≤ field_places = omega arith in 
 pub kinds-known : (s : List ℕ) (n : ℕ) → n ≡ fields_in s → n ≤ 8 → every (known s) (numbers 0 n) ≡ true → 0 ≡ kinds_number s
 unfolding kinds_number
 kinds-known s n e h f = let g : fields_in s ≤ field_places = omega arith in rw (le-leb (fields_in s) field_places g, rw e at f)
+
+-- a number is read as a kind where it is known
+pub kind-known : (n : ℕ) (r : Result Kind UnknownKind) → NumberOf n r → is_ok r ≡ leb n ball_kind
+kind-known n (Ok Kind.Level) e = sym (le-leb n ball_kind (omega arith))
+kind-known n (Ok Kind.Plane) e = sym (le-leb n ball_kind (omega arith))
+kind-known n (Ok Kind.Ball) e = sym (le-leb n ball_kind (omega arith))
+kind-known n (Err u) e = sym (lt-leb n ball_kind e.1)
+
+-- the kind that is read, and a ball for what is unknown
+module _ (n : ℕ) where
+  pub kind-level : (r : Result Kind UnknownKind) → NumberOf n r → Kind.Level ≡ result_unwrap_or r Kind.Ball → n ≡ 0
+  kind-level (Ok Kind.Level) e h = sym e
+  kind-level (Ok Kind.Plane) e h = cc
+  kind-level (Ok Kind.Ball) e h = cc
+  kind-level (Err u) e h = cc
+
+  pub kind-plane : (r : Result Kind UnknownKind) → NumberOf n r → Kind.Plane ≡ result_unwrap_or r Kind.Ball → n ≡ 1
+  kind-plane (Ok Kind.Level) e h = cc
+  kind-plane (Ok Kind.Plane) e h = sym e
+  kind-plane (Ok Kind.Ball) e h = cc
+  kind-plane (Err u) e h = cc
+
+  pub kind-ball : (r : Result Kind UnknownKind) → NumberOf n r → Kind.Ball ≡ result_unwrap_or r Kind.Ball → 1 < n
+  kind-ball (Ok Kind.Level) e h = cc
+  kind-ball (Ok Kind.Plane) e h = cc
+  kind-ball (Ok Kind.Ball) e h = omega (arith, e)
+  kind-ball (Err u) e h = omega (arith, e.1)

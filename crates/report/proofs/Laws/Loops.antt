@@ -1,14 +1,11 @@
 -- Elements and fields one by one: counts and lines. Assumes nothing.
-use Rattle.std.proofs.Common.{◌≡◌, ℕ, zero, suc, ◌+◌, ◌<◌, Bool, true, false, cond, List, [], ◌∷◌, ◌++◌, map, length, get_or, take, drop, sym, refl, ap, ◌∙◌, subst, inl, inr, append_assoc, append-nil, add-one, arith, length-append, length-take-le, take-suc}
+use Rattle.std.proofs.Common.{◌≡◌, ℕ, zero, suc, ◌+◌, ◌<◌, List, [], ◌∷◌, ◌++◌, map, length, get_or, take, drop, sym, refl, ap, ◌∙◌, subst, append_assoc, append-nil, add-one, arith, length-take-le, take-suc}
 use mathlib.Core.List.{map-append}
 use lib.ListN.{length-map}
 use Rattle.geometry.specs.declared.field.Field.{Field}
 use Rattle.mesh.specs.declared.element.Tet.{Tet}
-use Rattle.mesh.specs.Complex.{keep}
 use Rattle.mesh.specs.Element.{tet, tets}
 use Rattle.mesh.specs.inside.Intake.{tet_at}
-use Rattle.mesh.proofs.Laws.Bools.{split}
-use Rattle.mesh.proofs.Laws.List.Push.{keep_append}
 use Rattle.report.specs.Table.{inside_line, inside_lines, element_line, element_lines}
 use Rattle.report.specs.inside.Written.{Written}
 use Rattle.report.proofs.Laws.Text.{written_then}
@@ -19,20 +16,6 @@ pub tets-more : (i : ℕ) (s : List ℕ) → tets (suc i) s ≡ tets i s ++ (tet
 unfolding tets tet_at
 tets-more zero s = refl
 tets-more (suc i) s = ap (λ (l : List Tet). tet (get_or s 0 0) (get_or s 1 0) (get_or s 2 0) (get_or s 3 0) ∷ l) (tets-more i (drop 4 s) ∙ ap (λ (t : Tet). tets i (drop 4 s) ++ (t ∷ [])) (tet-drop s i))
-
--- one more element counted
-pub count-more : (p : Tet → Bool) (s : List ℕ) (i k r : ℕ) (t : Tet) (b : Bool) → k ≡ length (keep p (tets i s)) → t ≡ tet_at s i → b ≡ p t → r ≡ cond b (k + 1) k
-    → r ≡ length (keep p (tets (i + 1) s))
-count-more p s i k r t b e f g h =
-    let more : keep p (tets (i + 1) s) ≡ keep p (tets i s) ++ keep p (t ∷ []) = rw add-one (ap (keep p) (tets-more i s) ∙ (keep_append p (tets i s) (tet_at s i ∷ []) ∙ ap (λ (u : Tet). keep p (tets i s) ++ keep p (u ∷ [])) (sym f))) in
-    let long = ap length more ∙ length-append (keep p (tets i s)) (keep p (t ∷ [])) in
-    elim (split b) [ inl y ↦ yes (sym g ∙ y) (h ∙ rw y) long | inr n ↦ no (sym g ∙ n) (h ∙ rw n) long ]
-  where
-    yes : p t ≡ true → r ≡ k + 1 → length (keep p (tets (i + 1) s)) ≡ length (keep p (tets i s)) + length (keep p (t ∷ [])) → r ≡ length (keep p (tets (i + 1) s))
-    yes y u l = let one : length (keep p (t ∷ [])) ≡ 1 = rw y in omega arith
-
-    no : p t ≡ false → r ≡ k → length (keep p (tets (i + 1) s)) ≡ length (keep p (tets i s)) + length (keep p (t ∷ [])) → r ≡ length (keep p (tets (i + 1) s))
-    no n u l = let none : length (keep p (t ∷ [])) ≡ 0 = rw n in omega arith
 
 -- the lines of elements, the last behind the others
 lines-last : (ts : List Tet) (t : Tet) → element_lines (ts ++ (t ∷ [])) ≡ element_lines ts ++ element_line t

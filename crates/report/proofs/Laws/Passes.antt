@@ -16,12 +16,12 @@ use Rattle.mesh.proofs.Laws.Parts.{into-is, length-copied}
 use Rattle.mesh.proofs.Laws.Sort.{length-sort}
 use Rattle.mesh.proofs.Laws.Unique.{length-unique}
 use Rattle.mesh.proofs.Laws.Boundary.Faces.{tets-kept}
-use Rattle.repair.specs.declared.answer.Answer.{Answer}
-use Rattle.repair.specs.declared.answer.Answer.TheVariants.{Done, Refused}
+use Rattle.repair.specs.Step.{Answer}
+use Rattle.repair.specs.Step.{Done, Refused}
 use Rattle.repair.specs.Mesh.{Result, made, refused}
 use Rattle.repair.specs.Step.{State, Call, Pass, sizes_after, committed, lengths_of, given, mesh_of, result_of, finish, step}
-use Rattle.report.specs.declared.run.Ran.{Ran}
-use Rattle.report.specs.declared.run.Ran.TheVariants.{Finished, Stopped}
+use Rattle.report.specs.Run.{Ran}
+use Rattle.report.specs.Run.{Finished, Stopped}
 use Rattle.report.specs.Run.{Setting, call_in, after, called, run_flip, run_smooth, run_passes}
 use Rattle.report.specs.inside.Written.{Roomy}
 

@@ -1,14 +1,17 @@
 -- A file that is read: its plot in the passes' buffers, and what is printed for it. Assumes nothing.
 use Rattle.std.proofs.Common.{◌≡◌, ℕ, ◌+◌, ◌*◌, ◌≤◌, true, leb, List, ◌++◌, length, take, drop, sym, refl, ap, ◌∙◌, subst, ap₂, arith, eq-eqb, ne_eqb, le-leb}
+use Rattle.std.proofs.Common.{Result, Ok, Err}
+use Rattle.std.specs.Result.{result_unwrap_or}
 use lib.Ieee.{Float}
 use lib.Seq.{sets}
 use Rattle.geometry.specs.declared.bounds.Options.{Options}
 use Rattle.geometry.specs.declared.field.Field.{Field}
 use Rattle.mesh.specs.declared.element.Tet.{Tet}
-use Rattle.mesh.specs.declared.boundary.Outcome.{Outcome}
+use Rattle.mesh.specs.Surface.{Outcome}
 use Rattle.mesh.specs.Words.{points_of}
 use Rattle.mesh.specs.Element.{tets}
-use Rattle.mesh.specs.Surface.{triples_of, answer_of, surface_words, call_fits, Call, boundary_call}
+use Rattle.mesh.specs.declared.refusal.Refusal.{Refusal}
+use Rattle.mesh.specs.Surface.{outcome_of, triples_of, answer_of, surface_words, call_fits, Call, boundary_call}
 use Rattle.mesh.proofs.Laws.Bools.{and_intro}
 use Rattle.repair.specs.Step.{State, over, mesh_of}
 use Rattle.report.specs.Format.{most_elements}
@@ -16,7 +19,7 @@ use Rattle.report.specs.Bytes.{listed}
 use Rattle.report.specs.Block.{vertices_in, elements_in, fields_in, vertex_blocks, parameter_row, point_row, mask_row, element_row, header_options, header_fields, reading_number, plot_in, refused, read, reading}
 use Rattle.report.specs.Table.{refused_text}
 use Rattle.report.specs.inside.Written.{Written}
-use Rattle.report.specs.declared.run.Ran.{Ran}
+use Rattle.report.specs.Run.{Ran}
 use Rattle.report.specs.Run.{Setting, run_passes, sizes_left}
 use Rattle.report.specs.Report.{word_room, float_room, placed, blank, printed, run_text, text_of, report}
 use Rattle.report.proofs.Laws.Listed.{length-listed}
@@ -99,3 +102,8 @@ report-written s text {old} {new} {r} e w h =
 pub report-front : (s : List ℕ) → report (take 2561 s) ≡ report s
 unfolding report
 report-front s = ap text_of (reading-front s 2561 (omega arith))
+
+-- the triples of a result, 0 of a refusal
+pub unwrapped : (r : Result ℕ Refusal) → result_unwrap_or r 0 ≡ triples_of (outcome_of r)
+unwrapped (Ok c) = refl
+unwrapped (Err e) = refl

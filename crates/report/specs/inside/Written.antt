@@ -3,8 +3,8 @@ use Rattle.std.specs.Prelude.{◌≡◌, ℕ, ◌+◌, ◌*◌, ◌≤◌, List,
 use Rattle.std.proofs.lemmas.List.Edits.{sets}
 use Rattle.mesh.specs.inside.Complex.{Proper}
 use Rattle.mesh.specs.Element.{tets, vertices_of}
-use Rattle.report.specs.declared.run.Ran.{Ran}
-use Rattle.report.specs.declared.run.Ran.TheVariants.{Finished, Stopped}
+use Rattle.report.specs.Run.{Ran}
+use Rattle.report.specs.Run.{Finished, Stopped}
 use Rattle.report.specs.Format.{field_places, most_vertices, most_elements}
 use Rattle.report.specs.Report.{element_room, word_room}
 

@@ -8,7 +8,7 @@ use Rattle.geometry.specs.declared.bounds.Bounds.{Bounds}
 use Rattle.geometry.specs.declared.bounds.Options.{Options}
 use Rattle.geometry.specs.declared.point.Point.{Point}
 use Rattle.geometry.specs.declared.field.Field.{Field}
-use Rattle.repair.specs.declared.project.Projected.{Projected}
+use Rattle.repair.specs.Project.{Projected}
 use Rattle.repair.specs.Project.{project}
 use Rattle.halmafir.specs.Arrays.{point_of, bounds_of, count_of, fields_of}
 use Rattle.export.proofs.passes.h_project.Goals as goal
@@ -19,4 +19,4 @@ project-by : (b : Bounds) (o : Point) (n : ℕ) (fs : List Field) (p : Point) {x
 project-by b o n fs p e h i j k l = rw (sym h, sym i, sym j, sym k, sym l) e
 
 pub returns : goal.returns
-returns c = let a = c.args in c.put_point.ensures ∙ ap (point_over a.point.now) (project-by (bounds_of a.numbers.now) (point_of a.origin.now 0) (count_of a.settings.now) (fields_of a.settings.now a.numbers.now) (point_of a.candidate.now 0) c.project_candidate-found.ensures (ap (λ (o : Options). o.bounds) c.options_of-o.ensures) c.first.ensures c.count.ensures c.fields_of.ensures c.first-2.ensures)
+returns c = let a = c.args in c.put_point.ensures ∙ ap (point_over a.point.now) (project-by (bounds_of a.numbers.now) (point_of a.origin.now 0) (count_of a.settings.now) (fields_of a.settings.now a.numbers.now) (point_of a.candidate.now 0) c.project_candidate-found.ensures (ap (λ (o : Options). o.bounds) c.options_of-o.ensures) c.point_in.ensures c.count.ensures c.fields_of.ensures c.point_in-2.ensures)

@@ -1,10 +1,6 @@
--- `field::gradient` meets its contract: the case that matched, then what `sub` gives. Assumes nothing.
+-- `field::gradient` meets its contract: a ball's gradient is twice what `sub` gives. Assumes nothing.
 use lib.Ieee.{of_bits}
 use Rattle.geometry.proofs.field.gradient.Goals as goal
-
-pub returns-in-Level : goal.returns-in-Level
-unfolding of_bits
-returns-in-Level c = rw c.in-Level.is
 
 pub returns-in-Ball : goal.returns-in-Ball
 unfolding of_bits

@@ -1,16 +1,7 @@
 -- `word::order_bits` meets its contract, by its two tests. Assumes nothing.
 use lib.Ieee.{lt, of_bits, is_nan}
-use Rattle.geometry.proofs.Laws.Root.Value.{above_no_nan}
 use Rattle.geometry.proofs.Laws.Word.Nan.{is-nan, no_nan}
 use Rattle.geometry.proofs.word.order_bits.Goals as goal
-
-pub float_to_bits-result : goal.float_to_bits-result
-unfolding of_bits
-float_to_bits-result c = above_no_nan c.args.x c.if-x.true
-
-pub returns-then-x : goal.returns-then-x
-unfolding of_bits
-returns-then-x c = simp c.if-x.true
 
 pub returns-then-x-2 : goal.returns-then-x-2
 unfolding lt is_nan

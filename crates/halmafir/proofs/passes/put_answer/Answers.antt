@@ -1,9 +1,8 @@
 -- `halmafir::passes::put_answer` meets its contract: the match picks the case. Assumes nothing.
-
 use Rattle.halmafir.proofs.passes.put_answer.Goals as goal
 
-pub returns-in-Done : goal.returns-in-Done
-returns-in-Done c = rw c.in-Done.is
+pub returns-in-Ok : goal.returns-in-Ok
+returns-in-Ok c = rw c.in-Ok.is
 
-pub returns-in-Refused : goal.returns-in-Refused
-returns-in-Refused c = rw c.in-Refused.is
+pub returns-in-Err : goal.returns-in-Err
+returns-in-Err c = rw (c.in-Err.is, c.from.ensures)

@@ -1,23 +1,17 @@
 -- The two loops that copy elements: those of listed slots, and those that are live. Assumes nothing.
 use Rattle.std.proofs.Common.{◌≡◌, ℕ, ◌+◌, ◌*◌, ◌<◌, ◌≤◌, true, false, leb, List, [], ◌∷◌, length, get_or, take, drop, sym, refl, ap, ◌∙◌, arith, length-drop, length-take-le, get_or-drop, get_or-take, eq-eqb, ne_eqb, le-leb, leb-true}
 use lib.Seq.{paste}
-use borrow.Author.Tests.{lt-leb}
 use Rattle.mesh.specs.declared.element.Tet.{Tet}
 use Rattle.mesh.specs.declared.star.Index.{Index}
 use Rattle.mesh.specs.Words.{word_at, flat}
 use Rattle.mesh.specs.Complex.{keep}
-use Rattle.mesh.specs.Element.{tet, tets, vertices_of}
-use Rattle.mesh.specs.inside.Star.{gone_tet, gone_word, corner_at, Laid, written}
+use Rattle.mesh.specs.Element.{tets, vertices_of}
+use Rattle.mesh.specs.inside.Star.{gone_tet, gone_word, Laid, written}
 use Rattle.mesh.specs.inside.About.{slot_at, words_of, space_for, elements_in, live, live_room, live_list, live_in}
 use Rattle.mesh.proofs.Laws.Bools.{and_intro, and_left, and_right}
 use Rattle.mesh.proofs.Laws.Star.Written.{written_none}
-use Rattle.mesh.proofs.Laws.About.Copies.{space-is, space-yes, paste-element, slot_is, slot_kept, slot-element, Copying, copy_start, copy-long, copy_read, copy-room, copy-turn, copy-end, each_map, each_keep, keep_one}
+use Rattle.mesh.proofs.Laws.About.Copies.{space-is, space-yes, paste-element, slot_kept, slot-element, Copying, copy_start, copy-long, copy_read, copy-room, copy-turn, copy-end, each_map, each_keep, keep_one}
 use Rattle.mesh.proofs.Laws.Intake.Reads.{length-tets}
-
--- a slot's element from its words
-pub slot_read : (x : Index) (s : List ℕ) (e a b c d : ℕ) → e < x.room → a ≡ corner_at x s (4 * e) → b ≡ corner_at x s (4 * e + 1) → c ≡ corner_at x s (4 * e + 2)
-    → d ≡ corner_at x s (4 * e + 3) → tet a b c d ≡ slot_at x s e
-slot_read x s e a b c d h ea eb ec ed = rw (ea, eb, ec, ed) (slot_is x s e h)
 
 -- ---- the elements of listed slots
 
@@ -78,14 +72,6 @@ module _ (x : Index) (n : ℕ) (s₀ : List ℕ) (r : space_for x (length s₀) 
         ∙ rw r refl
 
 -- ---- the live elements
-
-pub live-far : (x : Index) (m n : ℕ) → x.room < n → false ≡ live_room x m n
-unfolding live_room
-live-far x m n h = rw (lt-leb n x.room h) refl
-
-pub live_test : (x : Index) (m n : ℕ) → n ≤ x.room → space_for x m n 4 ≡ live_room x m n
-unfolding live_room
-live_test x m n h = rw (le-leb n x.room h) refl
 
 pub live-is : (x : Index) (m n : ℕ) → live_room x m n ≡ true → Laid x m × (n ≤ x.room) × (x.area + n * 4 ≤ m)
 unfolding live_room

@@ -3,8 +3,8 @@ use Rattle.std.proofs.Common.{◌≡◌, ℕ, ◌+◌, ◌-◌, ◌*◌, ◌≤�
 use lib.Seq.{paste, length-paste}
 use borrow.Rule.Slice.PartMut.{mid_of}
 use Rattle.mesh.specs.declared.element.Tet.{Tet}
-use Rattle.mesh.specs.declared.boundary.Outcome.{Outcome}
-use Rattle.mesh.specs.declared.boundary.Outcome.TheVariants.{Surface, Refused}
+use Rattle.mesh.specs.Surface.{Outcome}
+use Rattle.mesh.specs.Surface.{Surface, Refused}
 use Rattle.mesh.specs.Words.{zero_words}
 use Rattle.mesh.specs.Element.{tets}
 use Rattle.mesh.specs.Surface.{triples_of, answer_of, surface_words, call_fits, Call, boundary_call}

@@ -2,8 +2,8 @@
 use Rattle.std.proofs.Common.{◌≡◌, ℕ, suc, ◌+◌, ◌-◌, ◌*◌, ◌<◌, ◌≤◌, Bool, true, cond, eqb, ltb, List, [], ◌∷◌, ◌++◌, map, length, get_or, take, drop, sym, refl, ap, ◌∙◌, ap₂, append_assoc, append-nil, arith, length-append, length-take-le, get_or-drop, take-take, take_at, ltb-true, ne_eqb}
 use lib.Seq.{paste, length-paste, take-paste}
 use Rattle.mesh.specs.declared.element.Triple.{Triple}
-use Rattle.mesh.specs.declared.boundary.Outcome.{Outcome}
-use Rattle.mesh.specs.declared.boundary.Outcome.TheVariants.{Surface, Refused}
+use Rattle.mesh.specs.Surface.{Outcome}
+use Rattle.mesh.specs.Surface.{Surface, Refused}
 use Rattle.mesh.specs.Tests.{every}
 use Rattle.mesh.specs.inside.Rows.{rows}
 use Rattle.mesh.specs.Words.{flat}

@@ -4,8 +4,8 @@ use lib.ListN.{length-replicate, replicate-append-replicate}
 use borrow.Rule.Slice.PartMut.{mid_of, put_mid}
 use Rattle.mesh.specs.declared.element.Tet.{Tet}
 use Rattle.mesh.specs.declared.element.Triple.{Triple}
-use Rattle.mesh.specs.declared.boundary.Outcome.{Outcome}
-use Rattle.mesh.specs.declared.boundary.Outcome.TheVariants.{Surface, Refused}
+use Rattle.mesh.specs.Surface.{Outcome}
+use Rattle.mesh.specs.Surface.{Surface, Refused}
 use Rattle.mesh.specs.Words.{zero_words, flat}
 use Rattle.mesh.specs.Sort.{sort}
 use Rattle.mesh.specs.inside.Rows.{rows, le_row, fit_rows, sorted_area}

@@ -1,12 +1,12 @@
 -- What the small functions of src/boundary.rt test and write. Assumes nothing.
-use Rattle.std.proofs.Common.{◌≡◌, ℕ, suc, ◌+◌, ◌-◌, ◌*◌, ◌/◌, ◌%◌, ◌<◌, ◌≤◌, false, leb, List, [], ◌∷◌, ◌++◌, length, get_or, take, drop, set, sym, ap, ◌∙◌, ap₂, append_assoc, arith, drop-drop, take-add, le-leb}
-use lib.Seq.{paste, paste-suc, sets-eq, take-paste, drop-paste}
+use Rattle.std.proofs.Common.{◌≡◌, ℕ, suc, ◌+◌, ◌-◌, ◌*◌, ◌/◌, ◌%◌, ◌<◌, ◌≤◌, false, leb, List, [], ◌∷◌, length, drop, set, sym, ap, ◌∙◌, ap₂, arith, drop-drop, le-leb}
+use lib.Seq.{paste, sets-eq, drop-paste}
 use borrow.Author.Tests.{lt-leb}
 use Rattle.mesh.specs.declared.element.Triple.{Triple}
 use Rattle.mesh.specs.Words.{word_at}
-use Rattle.mesh.specs.Element.{tet, face_of, key_of}
+use Rattle.mesh.specs.Element.{tet, face_of}
 use Rattle.mesh.specs.Surface.{call_fits}
-use Rattle.mesh.specs.inside.Surface.{area_fits, face_at, face_row}
+use Rattle.mesh.specs.inside.Surface.{area_fits, face_at}
 
 -- ---- room
 
@@ -50,11 +50,6 @@ put_four s p a b c d h =
     ap₂ (λ (i j : ℕ). set (set (set (set s p a) i b) j c) (p + 3) d) e f ∙ ap (λ (i : ℕ). set (set (set (set s p a) (suc p) b) (suc (suc p)) c) i d) g
     ∙ sets-eq (a ∷ b ∷ c ∷ d ∷ []) s p h
 
--- a key and a number
-pub put-key : (s : List ℕ) (p : ℕ) (k f : Triple) (m : ℕ) → k ≡ key_of f → p + 4 ≤ length s
-    → set (set (set (set s p k.a) (p + 1) k.b) (p + 2) k.c) (p + 3) m ≡ paste s p (face_row f m) 4
-put-key s p k f m e h = put_four s p k.a k.b k.c m h ∙ ap (λ (u : Triple). paste s p (u.a ∷ u.b ∷ u.c ∷ m ∷ []) 4) e
-
 -- ---- a face read
 
 pub face-is : (s : List ℕ) (m a b c d : ℕ) (f : Triple) → a ≡ word_at s (m / 4 * 4) → b ≡ word_at s (m / 4 * 4 + 1) → c ≡ word_at s (m / 4 * 4 + 2) → d ≡ word_at s (m / 4 * 4 + 3)
@@ -64,25 +59,9 @@ face-is s m a b c d f p q r t e = e ∙ rw (p, q, r, t)
 
 -- ---- pastes
 
--- one more word of a copy to the front
-pub over-turn : (d x : List ℕ) (p : ℕ) → p < length d → p < length x → set (paste d 0 x p) p (get_or x p 0) ≡ paste d 0 x (p + 1)
-over-turn d x p h k =
-    let e : p ≡ 0 + p = omega arith in
-    let f : suc p ≡ p + 1 = omega arith in
-    ap (λ (i : ℕ). set (paste d 0 x p) i (get_or x p 0)) e ∙ paste-suc d 0 x p 0 (omega arith) k ∙ ap (paste d 0 x) f
-
 -- what lies past a paste
 pub drop_past : (d : List ℕ) (k : ℕ) (x : List ℕ) (n e : ℕ) → k ≤ length d → n ≤ length x → k + n ≤ e → drop e (paste d k x n) ≡ drop e d
 drop_past d k x n e hd hx h =
     let q : e ≡ k + n + (e - (k + n)) = omega arith in
     ap (λ (i : ℕ). drop i (paste d k x n)) q ∙ sym (drop-drop (e - (k + n)) (k + n) (paste d k x n))
     ∙ ap (drop (e - (k + n))) (drop-paste d k x n hd hx) ∙ drop-drop (e - (k + n)) (k + n) d ∙ ap (λ (i : ℕ). drop i d) (sym q)
-
--- a paste behind a paste
-pub paste_more : (d : List ℕ) (k : ℕ) (x : List ℕ) (a : ℕ) (y : List ℕ) (b : ℕ) → k ≤ length d → a ≤ length x → take b y ≡ take b (drop a x)
-    → paste (paste d k x a) (k + a) y b ≡ paste d k x (a + b)
-paste_more d k x a y b hd hx e =
-    let q : k + a + b ≡ k + (a + b) = omega arith in
-    ap₂ (λ (u v : List ℕ). u ++ take b y ++ v) (take-paste d k x a hd hx) (drop_past d k x a (k + a + b) hd hx (omega arith))
-    ∙ ap₂ (λ (u : List ℕ) (i : ℕ). take k d ++ take a x ++ u ++ drop i d) e q
-    ∙ ap (λ (u : List ℕ). u ++ drop (k + (a + b)) d) (append_assoc (take k d) (take a x) (take b (drop a x)) ∙ ap (λ (u : List ℕ). take k d ++ u) (sym (take-add a b x)))

@@ -1,17 +1,15 @@
 -- The rows of simplices in an area: listed behind the elements, they are those of the definition, and they are counted and cleared.
 -- Assumes nothing.
-use Rattle.std.proofs.Common.{◌≡◌, ℕ, zero, suc, ◌+◌, ◌-◌, ◌*◌, ◌/◌, ◌%◌, ◌<◌, ◌≤◌, min, max, true, false, ltb, leb, List, [], ◌∷◌, ◌++◌, map, length, get_or, take, drop, sym, refl, ap, ◌∙◌, ap₂, append_assoc, arith, length-drop, length-take-le, get_or-drop, get_or-take, drop-drop, take_at, lt-ltb, le-leb, leb-true}
+use Rattle.std.proofs.Common.{◌≡◌, ℕ, zero, suc, ◌+◌, ◌-◌, ◌*◌, ◌/◌, ◌%◌, ◌<◌, ◌≤◌, true, false, ltb, leb, List, [], ◌∷◌, ◌++◌, map, length, get_or, take, drop, sym, refl, ap, ◌∙◌, ap₂, append_assoc, le_refl, arith, length-drop, take-take, length-take-le, get_or-drop, get_or-take, drop-drop, take_at, lt-ltb, le-leb, leb-true}
 use mathlib.Core.List.{map-append}
 use lib.Seq.{paste, length-paste}
 use borrow.Author.Tests.{lt-leb}
 use borrow.Rule.Slice.PartMut.{mid_of, put_mid}
-use Rattle.mesh.specs.declared.element.Pair.{Pair}
-use Rattle.mesh.specs.declared.element.Triple.{Triple}
 use Rattle.mesh.specs.declared.element.Tet.{Tet}
 use Rattle.mesh.specs.Words.{word_at, zero_words, numbers, flat}
 use Rattle.mesh.specs.Sort.{unique}
 use Rattle.mesh.specs.inside.Rows.{rows, eq_row, fit_rows, sorted_area, unique_rows, unique_area}
-use Rattle.mesh.specs.Element.{pair, tets, face_of, key_of, corners_of, vertices_of}
+use Rattle.mesh.specs.Element.{tets, face_of, key_of, corners_of, vertices_of}
 use Rattle.mesh.specs.inside.Intake.{tet_at}
 use Rattle.mesh.specs.inside.Manifold.{filled, KeptBelow}
 use Rattle.mesh.proofs.Laws.Bools.{and_intro, and_left, and_right}
@@ -20,7 +18,7 @@ use Rattle.mesh.proofs.Laws.Parts.{paste-part, tail-mid, tail-put}
 use Rattle.mesh.proofs.Laws.Rows.{rows_words}
 use Rattle.mesh.proofs.Laws.Keeping.{unique-is, length-unique-area}
 use Rattle.mesh.proofs.Laws.Intake.Reads.{length-tets, tets-same}
-use Rattle.mesh.proofs.Laws.Manifold.Fill.{fill-front, fill-turn, fill-kept, filled-rows}
+use Rattle.mesh.proofs.Laws.Manifold.Fill.{fill-kept, filled-rows}
 use Rattle.mesh.proofs.Laws.Manifold.Growth.{kept-both}
 use Rattle.mesh.proofs.Laws.Manifold.Steps.{word_below, put-kept, sort-kept, sort-from-rows}
 use Rattle.mesh.specs.inside.Euler.{ends_at, rising_row, vertex_rows, edge_rows, triangle_rows, spread, different, counts_of, count_fits, Counted, counted_in, edge_row_at, triangle_row_at}
@@ -132,32 +130,15 @@ vertex-rows (suc n) (a ∷ b ∷ c ∷ d ∷ s) h =
 
 -- ---- rows listed
 
--- the last edge, where k is none of the others
-pub ends_last : (t : Tet) (k : ℕ) → (k ≡ 0 → ⊥) → (k ≡ 1 → ⊥) → (k ≡ 2 → ⊥) → (k ≡ 3 → ⊥) → (k ≡ 4 → ⊥) → pair t.c t.d ≡ ends_at t k
-ends_last t zero n₀ n₁ n₂ n₃ n₄ = absurd (n₀ refl)
-ends_last t (suc zero) n₀ n₁ n₂ n₃ n₄ = absurd (n₁ refl)
-ends_last t (suc (suc zero)) n₀ n₁ n₂ n₃ n₄ = absurd (n₂ refl)
-ends_last t (suc (suc (suc zero))) n₀ n₁ n₂ n₃ n₄ = absurd (n₃ refl)
-ends_last t (suc (suc (suc (suc zero)))) n₀ n₁ n₂ n₃ n₄ = absurd (n₄ refl)
-ends_last t (suc (suc (suc (suc (suc zero))))) n₀ n₁ n₂ n₃ n₄ = refl
-ends_last t (suc (suc (suc (suc (suc (suc k)))))) n₀ n₁ n₂ n₃ n₄ = refl
-
-module _ (n j : ℕ) (s₀ s s' : List ℕ) (room : 28 * n ≤ length s₀) where
-  pub edges-turn : j < 6 * n → (t : Tet) (e : Pair) → s ≡ filled (edge_row_at s₀) 2 (4 * n) j s₀ → t ≡ tet_at s (j / 6) → e ≡ ends_at t (j % 6)
-      → s' ≡ paste s (4 * n + 2 * j) (min e.a e.b ∷ max e.a e.b ∷ []) 2 → s' ≡ filled (edge_row_at s₀) 2 (4 * n) (j + 1) s₀
+-- the elements tell the rows of their edges and triangles
+module _ (s : List ℕ) (n j : ℕ) where
+  pub edge_row-told : j < 6 * n → edge_row_at (take (4 * n) s) j ≡ edge_row_at s j
   unfolding edge_row_at
-  edges-turn h t e q f g p =
-      let k : take (4 * n) s ≡ take (4 * n) s₀ = ap (take (4 * n)) q ∙ fill-front (edge_row_at s₀) 2 (λ i. refl) (4 * n) s₀ (omega arith) j in
-      fill-turn (edge_row_at s₀) 2 (λ i. refl) (4 * n) s₀ (omega arith) j s s' (rising_row e) (omega arith) q
-      (ap rising_row (g ∙ ap (λ (u : Tet). ends_at u (j % 6)) (f ∙ tet-kept s₀ s n (j / 6) k (omega arith)))) p
+  edge_row-told h = ap (λ (t : Tet). rising_row (ends_at t (j % 6))) (tet-kept s (take (4 * n) s) n (j / 6) (take-take (4 * n) (4 * n) s (le_refl (4 * n))) (omega arith))
 
-  pub triangles-turn : j < 4 * n → (t : Tet) (f : Triple) → s ≡ filled (triangle_row_at s₀) 3 (4 * n) j s₀ → t ≡ tet_at s (j / 4) → f ≡ key_of (face_of t (j % 4))
-      → s' ≡ paste s (4 * n + 3 * j) (corners_of f) 3 → s' ≡ filled (triangle_row_at s₀) 3 (4 * n) (j + 1) s₀
+  pub triangle_row-told : j < 4 * n → triangle_row_at (take (4 * n) s) j ≡ triangle_row_at s j
   unfolding triangle_row_at
-  triangles-turn h t f q e g p =
-      let k : take (4 * n) s ≡ take (4 * n) s₀ = ap (take (4 * n)) q ∙ fill-front (triangle_row_at s₀) 3 (λ i. refl) (4 * n) s₀ (omega arith) j in
-      fill-turn (triangle_row_at s₀) 3 (λ i. refl) (4 * n) s₀ (omega arith) j s s' (corners_of f) (omega arith) q
-      (ap corners_of (g ∙ ap (λ (u : Tet). key_of (face_of u (j % 4))) (e ∙ tet-kept s₀ s n (j / 4) k (omega arith)))) p
+  triangle_row-told h = ap (λ (t : Tet). corners_of (key_of (face_of t (j % 4)))) (tet-kept s (take (4 * n) s) n (j / 4) (take-take (4 * n) (4 * n) s (le_refl (4 * n))) (omega arith))
 
 -- ---- rows sorted, and equal neighbours taken out
 

@@ -22,10 +22,8 @@ neither_right false b h = h
 pub and-on : {a b r : Bool} → a ≡ true → r ≡ b → r ≡ (a && b)
 and-on {b} h e = rw h e
 
--- the last two of four vertices
-pub last-differ : (x : Bool) → not x ≡ (not (x || false) && true)
-last-differ true = refl
-last-differ false = refl
+pub and-off : {a r : Bool} (b : Bool) → a ≡ false → r ≡ false → r ≡ (a && b)
+and-off b h e = rw (h, e)
 
 -- ---- a test that a call makes
 

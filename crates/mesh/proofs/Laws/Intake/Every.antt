@@ -1,5 +1,6 @@
 -- A loop that tests the elements of a list one by one: what is left from i on is the whole. Assumes nothing.
-use Rattle.std.proofs.Common.{◌≡◌, ℕ, suc, ◌+◌, ◌<◌, ◌≤◌, Bool, true, false, ◌&&◌, List, length, get_or, take, drop, sym, ap, ◌∙◌, add-one, arith, drop_of_length-le, length-take-le, drop-cons, get_or-take}
+use Rattle.std.proofs.Common.{◌≡◌, ℕ, zero, suc, ◌+◌, ◌<◌, ◌≤◌, Bool, true, false, ◌&&◌, List, [], ◌∷◌, length, get_or, take, drop, refl, sym, ap, ◌∙◌, add-one, arith, drop_of_length-le, length-take-le, drop-cons, get_or-take}
+use Rattle.std.specs.List.{range_with_len, list_all}
 use lib.Ieee.{Float}
 use Rattle.geometry.specs.declared.point.Point.{Point}
 use Rattle.mesh.specs.declared.element.Tet.{Tet}
@@ -31,6 +32,11 @@ module _ {A : Type 0} (p : A → Bool) (l : List A) (n : ℕ) (at : ℕ → A) (
   every-end : (i : ℕ) → n ≤ i → every p (drop i l) ≡ every p l → every p l ≡ true
   every-end i h e = sym e ∙ ap (every p) (drop_of_length-le l {i = i} (omega (arith, long)))
 
+  -- the numbers from m on, tested in turn
+  every-numbers : (k m : ℕ) (z : A) → m + k ≡ n → list_all (λ i. p (at i)) (range_with_len m k) ≡ every p (drop m l)
+  every-numbers zero m z e = sym (ap (every p) (drop_of_length-le l {i = m} (omega (arith, long))))
+  every-numbers (suc k) m z e = ap (λ (b : Bool). p (at m) && b) (every-numbers k (m + 1) z (omega arith)) ∙ sym (every-at m z (omega arith))
+
 -- ---- the first n of a list
 
 module _ {A : Type 0} (p : A → Bool) (l : List A) (n : ℕ) (z : A) (long : n ≤ length l) where
@@ -50,6 +56,12 @@ module _ {A : Type 0} (p : A → Bool) (l : List A) (n : ℕ) (z : A) (long : n 
   pub front-end : (i : ℕ) → n ≤ i → every p (drop i (take n l)) ≡ every p (take n l) → every p (take n l) ≡ true
   front-end i = every-end p (take n l) n (λ i. get_or l i z) front_long front_reads i
 
+-- ---- a chain over a slice
+
+pub list_all-every : {A : Type 0} (p : A → Bool) (l : List A) → list_all p l ≡ every p l
+list_all-every p [] = refl
+list_all-every p (x ∷ l) = ap (λ (b : Bool). p x && b) (list_all-every p l)
+
 -- ---- elements
 
 module _ (p : Tet → Bool) (n : ℕ) (s : List ℕ) (i : ℕ) where
@@ -65,6 +77,10 @@ module _ (p : Tet → Bool) (n : ℕ) (s : List ℕ) (i : ℕ) where
   pub tets-end : n ≤ i → TetsLeft → every p (tets n s) ≡ true
   tets-end = every-end p (tets n s) n (tet_at s) (length-tets n s) (λ i h z. tets-at n s i z h) i
 
+-- each number below n tested
+pub tets-all : (p : Tet → Bool) (n : ℕ) (s : List ℕ) → list_all (λ i. p (tet_at s i)) (range_with_len 0 n) ≡ every p (tets n s)
+tets-all p n s = every-numbers p (tets n s) n (tet_at s) (length-tets n s) (λ i h z. tets-at n s i z h) n 0 (tet 0 0 0 0) (omega arith)
+
 -- ---- points
 
 module _ (p : Point → Bool) (n : ℕ) (s : List Float) (i : ℕ) where
@@ -79,3 +95,7 @@ module _ (p : Point → Bool) (n : ℕ) (s : List Float) (i : ℕ) where
 
   pub points-end : n ≤ i → PointsLeft → every p (points_of n s) ≡ true
   points-end = every-end p (points_of n s) n (point_in s) (length-points n s) (λ i h z. points-at n s i z h) i
+
+-- each number below n tested
+pub points-all : (p : Point → Bool) (n : ℕ) (s : List Float) → list_all (λ i. p (point_in s i)) (range_with_len 0 n) ≡ every p (points_of n s)
+points-all p n s = every-numbers p (points_of n s) n (point_in s) (length-points n s) (λ i h z. points-at n s i z h) n 0 zero_point (omega arith)

@@ -3,8 +3,8 @@
 use Rattle.std.proofs.Common.{◌≡◌, ℕ, ◌+◌, ◌-◌, ◌*◌, ◌≤◌, Bool, true, false, cond, eqb, leb, List, ◌++◌, length, take, drop, sym, refl, ap, ◌∙◌, ap₂, arith, length-take-le, take-take, drop-drop, take_at, drop_at, eqb-true, le-leb}
 use lib.Seq.{paste, length-paste}
 use Rattle.mesh.specs.declared.element.Tet.{Tet}
-use Rattle.mesh.specs.declared.boundary.Outcome.{Outcome}
-use Rattle.mesh.specs.declared.boundary.Outcome.TheVariants.{Surface, Refused}
+use Rattle.mesh.specs.Surface.{Outcome}
+use Rattle.mesh.specs.Surface.{Surface, Refused}
 use Rattle.mesh.specs.Words.{zero_words}
 use Rattle.mesh.specs.Element.{tets}
 use Rattle.mesh.specs.Boundary.{boundary_number, boundary_of}

@@ -1,47 +1,17 @@
 -- Rows of faces and elements in the area: how they are written, sorted and read. Assumes nothing.
-use Rattle.std.proofs.Common.{◌≡◌, ℕ, suc, ◌+◌, ◌-◌, ◌*◌, ◌/◌, ◌%◌, ◌<◌, ◌≤◌, Bool, true, false, not, ◌&&◌, ◌||◌, eqb, List, [], ◌∷◌, ◌++◌, map, length, get_or, take, drop, set, sym, refl, ap, ◌∙◌, ap₂, arith, get_or-drop, get_or-take, drop-drop, eq-eqb, ne_eqb}
-use lib.Seq.{paste, sets-eq}
-use Rattle.mesh.specs.declared.element.Pair.{Pair}
+use Rattle.std.proofs.Common.{◌≡◌, ℕ, suc, ◌+◌, ◌-◌, ◌*◌, ◌/◌, ◌%◌, ◌<◌, ◌≤◌, Bool, true, false, not, ◌&&◌, ◌||◌, eqb, List, [], ◌∷◌, ◌++◌, length, get_or, take, drop, sym, refl, ap, ◌∙◌, ap₂, arith, get_or-drop, get_or-take, drop-drop, eq-eqb, ne_eqb}
+use lib.Seq.{paste}
 use Rattle.mesh.specs.declared.element.Tet.{Tet}
 use Rattle.mesh.specs.declared.element.Triple.{Triple}
 use Rattle.mesh.specs.inside.Rows.{rows}
-use Rattle.mesh.specs.Words.{flat}
 use Rattle.mesh.specs.Tests.{every}
-use Rattle.mesh.specs.Element.{triple, corners_of, vertices_of}
-use Rattle.mesh.specs.Link.{subsets}
+use Rattle.mesh.specs.Element.{corners_of, vertices_of}
 use Rattle.mesh.specs.inside.Manifold.{filled}
 use Rattle.mesh.specs.inside.Intake.{tet_at}
-use Rattle.mesh.specs.inside.LinkRows.{mark, link_face, subset_at, element_row_at, two_words, face_in, marked}
+use Rattle.mesh.specs.inside.LinkRows.{mark, link_face, subset_at, element_row_at, marked}
 use Rattle.mesh.proofs.Laws.Rows.{one-row}
 use Rattle.mesh.proofs.Laws.Manifold.Fill.{fill-front, fill-turn}
 use Rattle.mesh.proofs.Laws.Euler.Areas.{tet-kept}
-
--- ---- the rows of a face
-
--- the words of the three rows of a pair with a mark
-abbrev pub nine_words : Pair → ℕ → List ℕ
-nine_words e m = flat (map (λ σ. two_words σ ++ (m ∷ [])) (subsets (e.a ∷ e.b ∷ [])))
-
-pub put-nine : (s : List ℕ) (p : ℕ) (e : Pair) (m : ℕ) → p + 9 ≤ length s
-    → set (set (set (set (set (set (set (set (set s p e.b) (p + 1) e.b) (p + 2) m) (p + 3) e.a) (p + 4) e.a) (p + 5) m) (p + 6) e.a) (p + 7) e.b) (p + 8) m
-    ≡ paste s p (nine_words e m) 9
-unfolding flat
-put-nine s p e m h =
-    let e₁ : p + 1 ≡ suc p = omega arith in
-    let e₂ : p + 2 ≡ suc (suc p) = omega arith in
-    let e₃ : p + 3 ≡ suc (suc (suc p)) = omega arith in
-    let e₄ : p + 4 ≡ suc (suc (suc (suc p))) = omega arith in
-    let e₅ : p + 5 ≡ suc (suc (suc (suc (suc p)))) = omega arith in
-    let e₆ : p + 6 ≡ suc (suc (suc (suc (suc (suc p))))) = omega arith in
-    let e₇ : p + 7 ≡ suc (suc (suc (suc (suc (suc (suc p)))))) = omega arith in
-    let e₈ : p + 8 ≡ suc (suc (suc (suc (suc (suc (suc (suc p))))))) = omega arith in
-    rw (e₁, e₂, e₃, e₄, e₅, e₆, e₇, e₈) (sets-eq (e.b ∷ e.b ∷ m ∷ e.a ∷ e.a ∷ m ∷ e.a ∷ e.b ∷ m ∷ []) s p h)
-
--- the three words at p as a face
-pub face-at : (s : List ℕ) (p : ℕ) → triple (get_or s p 0) (get_or s (p + 1) 0) (get_or s (p + 2) 0) ≡ face_in (drop p s)
-face-at s p =
-    let e : p + 0 ≡ p = omega arith in
-    rw (get_or-drop p s 0 0, get_or-drop p s 1 0, get_or-drop p s 2 0, e) refl
 
 -- ---- rows of elements by number
 

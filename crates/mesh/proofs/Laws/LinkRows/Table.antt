@@ -17,7 +17,7 @@ use Rattle.mesh.specs.inside.Intake.{tet_at}
 use Rattle.mesh.specs.inside.Euler.{spread}
 use Rattle.mesh.specs.inside.List.{stacked, Pushed}
 use Rattle.mesh.specs.inside.LinkRows.{mark, link_face, subset_at, element_row_at, element_rows, meet_run}
-use Rattle.mesh.specs.inside.LinkTable.{told_both, both_face, none_face, both_row, told_words, told_tet}
+use Rattle.mesh.specs.inside.LinkTable.{told_both, both_face, none_face, both_row, told_tet}
 use Rattle.mesh.proofs.Laws.Bools.{split, and_left, and_right}
 use Rattle.mesh.proofs.Laws.Rows.{Shape, none, more}
 use Rattle.mesh.proofs.Laws.Boundary.Same.{length-keep, length-map}
@@ -197,11 +197,6 @@ module _ (a b n : ℕ) (s₀ : List ℕ) (room : 88 * n ≤ length s₀) {s : Li
       -- one row is left out
       pub told-less : x ≡ false → Listing a b n s₀ (both_row (60 * n) s₀) s c (j + 1)
       told-less y = listing-less a b n s₀ (both_row (60 * n) s₀) room v h r ef eg (mark a b (vertices_of t)) refl (row_by n s₀ s behind x g (mark a b (vertices_of t)) ex ∙ y)
-
--- whether the table tells the mark of an element, by its parts
-pub told_is : (at : ℕ) (s : List ℕ) (a b : ℕ) {t u : Tet} {f : Triple} {m : ℕ} → t ≡ u → f ≡ link_face a b t → m ≡ mark a b (vertices_of t) → told_words at s m f.a f.b f.c ≡ told_tet at s a b u
-unfolding told_tet
-told_is at s a b e ef em = ap₂ (λ (f : Triple) (m : ℕ). told_words at s m f.a f.b f.c) ef em ∙ ap (told_tet at s a b) e
 
 -- ---- the table filled
 

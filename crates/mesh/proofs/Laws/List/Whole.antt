@@ -1,5 +1,5 @@
 -- The listings, call by call: the bad elements, the rows behind them, and that the whole is the definition. Assumes nothing.
-use Rattle.std.proofs.Common.{◌≡◌, ℕ, ◌+◌, ◌-◌, ◌*◌, ◌<◌, ◌≤◌, true, List, ◌++◌, map, length, take, drop, refl, arith}
+use Rattle.std.proofs.Common.{◌≡◌, ℕ, ◌+◌, ◌-◌, ◌*◌, ◌<◌, ◌≤◌, true, List, ◌++◌, map, length, take, drop, refl, arith, mul-le-mul_left}
 use Rattle.geometry.specs.declared.point.Point.{Point}
 use Rattle.mesh.specs.declared.element.Tet.{Tet}
 use Rattle.mesh.specs.Words.{zero_words, numbers, flat}
@@ -9,16 +9,9 @@ use Rattle.mesh.specs.Element.{tets, vertices_of}
 use Rattle.mesh.specs.inside.Manifold.{filled, KeptBelow}
 use Rattle.mesh.specs.inside.Euler.{spread, edge_rows, triangle_rows, edge_row_at, triangle_row_at}
 use Rattle.mesh.proofs.Laws.Euler.Areas.{edge-rows, triangle-rows}
-use Rattle.mesh.specs.inside.List.{bad_in, set_of, list_fits, Listing, listed_in, stacked}
+use Rattle.mesh.specs.inside.List.{bad_in, set_of, list_fits, Listing, listed_in, stacked, Kind}
 use Rattle.mesh.proofs.Laws.List.Bad.{gathered-few, gathered-kept}
 use Rattle.mesh.proofs.Laws.List.Rows.{part_room, rows-room, rows-number, rows-area, fits-is, in-yes}
-
--- c rows of w words an element
-pub record Kind (w c : ℕ) (row : List ℕ → ℕ → List ℕ) (f : Tet → List (List ℕ)) : Type 0 where
-  pub some : 0 < w
-  pub wide : (i : ℕ) → (c * i + c * i) * w ≡ 24 * i
-  pub size : (s : List ℕ) (j : ℕ) → length (row s j) ≡ w
-  pub numbered : (s : List ℕ) (i : ℕ) → map (row s) (numbers 0 (c * i)) ≡ spread f (tets i s)
 
 pub edges : Kind 2 6 edge_row_at edge_rows
 unfolding edge_row_at
@@ -27,6 +20,10 @@ edges = record { some = omega arith; wide = λ i. omega arith; size = λ s j. re
 pub faces : Kind 3 4 triangle_row_at triangle_rows
 unfolding triangle_row_at
 faces = record { some = omega arith; wide = λ i. omega arith; size = λ s j. refl; numbered = triangle-rows }
+
+-- no more than 24 rows an element
+pub each-few : {w c : ℕ} {row : List ℕ → ℕ → List ℕ} {f : Tet → List (List ℕ)} (q : Kind w c row f) (k : ℕ) → c * k ≤ 24 * k
+each-few {w} {c} q k = omega (arith, q.wide k, mul-le-mul_left (c * k + c * k) q.some)
 
 module _ {w c : ℕ} {row : List ℕ → ℕ → List ℕ} {f : Tet → List (List ℕ)} (q : Kind w c row f) (ps : List Point) (n k : ℕ) (s₀ s₁ : List ℕ) (fits : list_fits n (length s₀) ≡ true)
     (number : k ≡ length (keep (bad_in ps) (tets n s₀))) (e₁ : s₁ ≡ stacked (map vertices_of (keep (bad_in ps) (tets n s₀))) 4 (4 * n) s₀) where

@@ -1,7 +1,6 @@
--- Words of an area that are kept, rows that are written, sorted and cleared behind them, and scans over words and runs. Assumes nothing.
-use Rattle.std.proofs.Common.{◌≡◌, ℕ, suc, ◌+◌, ◌-◌, ◌*◌, ◌/◌, ◌%◌, ◌<◌, ◌≤◌, min, max, Bool, true, false, cond, ◌&&◌, eqb, ltb, leb, List, [], ◌∷◌, ◌++◌, length, get_or, take, drop, set, sym, refl, ap, ◌∙◌, ap₂, add-one, arith, length-append, length-drop, drop_of_length-le, length-take-le, drop-cons, get_or-take, take-take, drop-drop, take_at, get_or-append-add, drop_at, lt-ltb, le-leb}
+-- Words of an area that are kept, rows that are written, sorted and cleared behind them, and scans over runs. Assumes nothing.
+use Rattle.std.proofs.Common.{◌≡◌, ℕ, suc, ◌+◌, ◌-◌, ◌*◌, ◌/◌, ◌%◌, ◌<◌, ◌≤◌, min, max, Bool, true, false, cond, ◌&&◌, eqb, ltb, leb, List, [], ◌∷◌, ◌++◌, length, get_or, take, drop, sym, ap, ◌∙◌, ap₂, le_refl, arith, length-append, length-drop, drop_of_length-le, length-take-le, drop-cons, get_or-take, take-take, drop-drop, take_at, get_or-append-add, drop_at, lt-ltb, le-leb}
 use lib.ListN.{length-replicate}
-use lib.Seq.{paste, sets-eq}
 use Rattle.mesh.specs.Words.{word_at, zero_words}
 use Rattle.mesh.specs.Sort.{sort}
 use Rattle.mesh.specs.inside.Sort.{leading}
@@ -12,8 +11,7 @@ use Rattle.mesh.proofs.Laws.Rows.{rows_same}
 use Rattle.mesh.proofs.Laws.Areas.{rows-sorted, length-sorted}
 use Rattle.mesh.proofs.Laws.Runs.{length-is}
 use Rattle.mesh.specs.inside.Group.{runs, same_first}
-use Rattle.mesh.specs.inside.Manifold.{corner_at, edge_row, link_row, filled, two, KeptBelow}
-use Rattle.mesh.proofs.Laws.Manifold.Fill.{fill-front, fill-turn}
+use Rattle.mesh.specs.inside.Manifold.{corner_at, edge_row, link_row, two, KeptBelow}
 use Rattle.mesh.proofs.Laws.Manifold.RowRuns.{run-first, run-turn}
 use Rattle.mesh.proofs.Laws.Parts.{zero_word}
 
@@ -30,23 +28,6 @@ kept_less {a} {b} {s₀} {s} h k = record {
   front = sym (take-take a b s h) ∙ ap (take a) k.front ∙ take-take a b s₀ h;
   long = k.long;
 }
-
--- ---- words put at a place
-
-pub put_two : (s : List ℕ) (p a b : ℕ) → p + 2 ≤ length s → set (set s p a) (p + 1) b ≡ paste s p (a ∷ b ∷ []) 2
-put_two s p a b h = let e : p + 1 ≡ suc p = omega arith in rw e (sets-eq (a ∷ b ∷ []) s p h)
-
-pub put_up : (s : List ℕ) (p x y : ℕ) → p + 2 ≤ length s → x < y → set (set s p x) (p + 1) y ≡ paste s p (min x y ∷ max x y ∷ []) 2
-put_up s p x y h l =
-    let e : x ≡ min x y = omega arith in
-    let f : y ≡ max x y = omega arith in
-    put_two s p x y h ∙ ap₂ (λ (u v : ℕ). paste s p (u ∷ v ∷ []) 2) e f
-
-pub put-down : (s : List ℕ) (p x y : ℕ) → p + 2 ≤ length s → y ≤ x → set (set s p y) (p + 1) x ≡ paste s p (min x y ∷ max x y ∷ []) 2
-put-down s p x y h l =
-    let e : y ≡ min x y = omega arith in
-    let f : x ≡ max x y = omega arith in
-    put_two s p y x h ∙ ap₂ (λ (u v : ℕ). paste s p (u ∷ v ∷ []) 2) e f
 
 -- ---- a part that reaches to the end
 
@@ -80,23 +61,6 @@ module _ (a : ℕ) (s s' : List ℕ) (h : a ≤ length s) (e : s' ≡ take a s +
       ∙ ap (λ (u : ℕ). word_at (take a s ++ zero_words (length s - a)) (u + x)) (sym (length-take-le a s h))
       ∙ get_or-append-add (take a s) (zero_words (length s - a)) x 0
       ∙ zero_word (length s - a) x
-
--- ---- a scan of words
-
-module _ (p : ℕ → Bool) (s : List ℕ) (n i : ℕ) (l : n ≤ length s) where
-  words-at : i < n → every p (drop i (take n s)) ≡ (p (get_or s i 0) && every p (drop (i + 1) (take n s)))
-  words-at h =
-      ap (every p) (drop-cons (take n s) i 0 (omega (arith, length-take-le n s l)))
-      ∙ ap₂ (λ (x k : ℕ). p x && every p (drop k (take n s))) (get_or-take n s i 0 h) (sym (add-one i))
-
-  pub words-turn : i < n → every p (drop i (take n s)) ≡ every p (take n s) → p (get_or s i 0) ≡ true → every p (drop (i + 1) (take n s)) ≡ every p (take n s)
-  words-turn h e t = sym (words-at h ∙ ap (λ (b : Bool). b && every p (drop (i + 1) (take n s))) t) ∙ e
-
-  pub words-fail : i < n → every p (drop i (take n s)) ≡ every p (take n s) → p (get_or s i 0) ≡ false → false ≡ every p (take n s)
-  words-fail h e t = sym (words-at h ∙ ap (λ (b : Bool). b && every p (drop (i + 1) (take n s))) t) ∙ e
-
-  pub words-end : n ≤ i → every p (drop i (take n s)) ≡ every p (take n s) → true ≡ every p (take n s)
-  words-end h e = sym (ap (every p) (drop_of_length-le (take n s) {i = i} (omega (arith, length-take-le n s l)))) ∙ e
 
 -- ---- a scan of runs
 
@@ -165,20 +129,15 @@ corner-kept s₀ s n j k e h =
     let l : i < 3 * n = omega arith in
     sym (get_or-take (3 * n) s i 0 l) ∙ ap (λ (u : List ℕ). get_or u i 0) e ∙ get_or-take (3 * n) s₀ i 0 l
 
-module _ (n j : ℕ) (s₀ s s' : List ℕ) (room : 27 * n ≤ length s₀) (h : j < 3 * n) where
-  pub edges-turn : (x y : ℕ) → s ≡ filled (edge_row s₀) 2 (3 * n) j s₀ → x ≡ corner_at s j 0 → y ≡ corner_at s j 1
-      → s' ≡ paste s (3 * n + 2 * j) (min x y ∷ max x y ∷ []) 2 → s' ≡ filled (edge_row s₀) 2 (3 * n) (j + 1) s₀
-  unfolding edge_row
-  edges-turn x y e f g p =
-      let q : take (3 * n) s ≡ take (3 * n) s₀ = ap (take (3 * n)) e ∙ fill-front (edge_row s₀) 2 (λ i. refl) (3 * n) s₀ (omega arith) j in
-      fill-turn (edge_row s₀) 2 (λ i. refl) (3 * n) s₀ (omega arith) j s s' (min x y ∷ max x y ∷ []) (omega arith) e
-      (ap₂ (λ (u v : ℕ). min u v ∷ max u v ∷ []) (f ∙ corner-kept s₀ s n j 0 q h) (g ∙ corner-kept s₀ s n j 1 q h)) p
+-- the triples tell the rows of their edges and corners
+module _ (s : List ℕ) (n j : ℕ) (h : j < 3 * n) where
+  told : (k : ℕ) → corner_at (take (3 * n) s) j k ≡ corner_at s j k
+  told k = corner-kept s (take (3 * n) s) n j k (take-take (3 * n) (3 * n) s (le_refl (3 * n))) h
 
-  pub corners-turn : (v x y : ℕ) → s ≡ filled (link_row s₀) 4 (3 * n) j s₀ → v ≡ corner_at s j 0 → x ≡ corner_at s j 1 → y ≡ corner_at s j 2
-      → s' ≡ paste s (3 * n + 4 * j) (v ∷ j ∷ x ∷ y ∷ []) 4 → s' ≡ filled (link_row s₀) 4 (3 * n) (j + 1) s₀
+  pub edge_row-told : edge_row (take (3 * n) s) j ≡ edge_row s j
+  unfolding edge_row
+  edge_row-told = ap₂ (λ (u v : ℕ). min u v ∷ max u v ∷ []) (told 0) (told 1)
+
+  pub link_row-told : link_row (take (3 * n) s) j ≡ link_row s j
   unfolding link_row
-  corners-turn v x y e f g k p =
-      let q : take (3 * n) s ≡ take (3 * n) s₀ = ap (take (3 * n)) e ∙ fill-front (link_row s₀) 4 (λ i. refl) (3 * n) s₀ (omega arith) j in
-      fill-turn (link_row s₀) 4 (λ i. refl) (3 * n) s₀ (omega arith) j s s' (v ∷ j ∷ x ∷ y ∷ []) (omega arith) e
-      (ap₂ (λ (u : ℕ) (l : List ℕ). u ∷ j ∷ l) (f ∙ corner-kept s₀ s n j 0 q h)
-      (ap₂ (λ (u t : ℕ). u ∷ t ∷ []) (g ∙ corner-kept s₀ s n j 1 q h) (k ∙ corner-kept s₀ s n j 2 q h))) p
+  link_row-told = ap₂ (λ (u : ℕ) (l : List ℕ). u ∷ j ∷ l) (told 0) (ap₂ (λ (u t : ℕ). u ∷ t ∷ []) (told 1) (told 2))

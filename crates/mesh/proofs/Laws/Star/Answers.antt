@@ -1,20 +1,14 @@
 -- The answers in the area: what `star` and `neighbours` put there is their definition's, and what a caller reads there. Assumes nothing.
-use Rattle.std.proofs.Common.{◌≡◌, ℕ, ◌+◌, ◌-◌, ◌*◌, ◌<◌, ◌≤◌, Bool, true, false, List, ◌++◌, length, take, drop, replicate, sym, refl, ap, ◌∙◌, subst, ap₂, arith, length-append, take-take, take_at, eq-eqb, ne_eqb}
+use Rattle.std.proofs.Common.{◌≡◌, ℕ, ◌+◌, ◌-◌, ◌*◌, ◌<◌, ◌≤◌, Bool, true, false, List, ◌++◌, length, take, drop, replicate, sym, refl, ap, ◌∙◌, subst, ap₂, arith, length-append, take-take, take_at}
 use lib.ListN.{length-replicate}
 use Rattle.mesh.specs.declared.star.Index.{Index}
 use Rattle.mesh.specs.Words.{word_at}
 use Rattle.mesh.specs.inside.Star.{chain_length, Laid, Free, room_for, second, slots_met, slots_about, star_room, star_list, starred, others_met, neighbour_room, neighbour_list, neighboured, distinct, written, listed}
 use Rattle.mesh.proofs.Laws.Star.Layout.{room-is}
-use Rattle.mesh.proofs.Laws.Star.Written.{length-written, written_below, written_behind, written-part, written-more, written_over}
+use Rattle.mesh.proofs.Laws.Star.Written.{length-written, written_below, written-part, written-more, written_over}
 use Rattle.mesh.proofs.Laws.Star.Chains.{length-kept}
 use Rattle.mesh.proofs.Laws.Star.Distinct.{length-distinct}
 use Rattle.mesh.proofs.Laws.Star.Gathering.{slots-short, all-others-short, slots_same}
-
-pub second-same : (x : Index) (v w : ℕ) → v ≡ w → x.vertices ≡ second x v w
-second-same x v w e = rw (eq-eqb v w e)
-
-pub second-other : (x : Index) (v w : ℕ) → (v ≡ w → ⊥) → w ≡ second x v w
-second-other x v w n = rw (ne_eqb v w n)
 
 -- ---- a list in its place
 
@@ -42,11 +36,6 @@ module _ (s : List ℕ) (k : ℕ) (us : List ℕ) (h : k + (length us + length u
   pub listed_below : (j : ℕ) → j < k → word_at (listed s k us) j ≡ word_at s j
   unfolding listed
   listed_below j g = written_below s k words fits j g
-
-  -- and behind what was used
-  pub listed-behind : (j : ℕ) → k + (length us + length us) ≤ j → word_at (listed s k us) j ≡ word_at s j
-  unfolding listed
-  listed-behind j g = written_behind s k words fits j (omega (arith, words_long))
 
   -- the list, read back
   pub listed-part : take (length (distinct us)) (drop k (listed s k us)) ≡ distinct us

@@ -1,13 +1,13 @@
 -- Gathering along a chain: each entry puts at most w words behind those there, and reads only words before the area. Assumes nothing.
-use Rattle.std.proofs.Common.{◌≡◌, ℕ, suc, ◌+◌, ◌-◌, ◌*◌, ◌/◌, ◌<◌, ◌≤◌, Bool, true, false, cond, not, eqb, List, [], ◌∷◌, ◌++◌, length, set, sym, refl, ap, ◌∙◌, subst, ap₂, append_assoc, append-nil, arith, length-append, eq-eqb, ne_eqb}
+use Rattle.std.proofs.Common.{◌≡◌, ℕ, suc, ◌+◌, ◌-◌, ◌*◌, ◌/◌, ◌<◌, ◌≤◌, Bool, true, false, cond, not, eqb, List, [], ◌∷◌, ◌++◌, length, sym, refl, ap, ◌∙◌, subst, ap₂, append_assoc, append-nil, arith, length-append, eq-eqb, ne_eqb}
 use Rattle.mesh.specs.declared.star.Index.{Index}
 use Rattle.mesh.specs.Words.{word_at}
 use Rattle.mesh.specs.Complex.{mem}
-use Rattle.mesh.specs.inside.Star.{walk, gather, corner_at, corners_at, next_of, head_of, chain_length, chain_of, but_for, slot_if, others_if, slots_met, others_met, written, Laid, Free}
+use Rattle.mesh.specs.inside.Star.{walk, gather, corner_at, corners_at, next_of, head_of, chain_length, chain_of, but_for, slot_if, others_if, slots_met, others_met, written, Laid, Free, Steady}
 use Rattle.mesh.proofs.Laws.Rows.{one-row}
 use Rattle.mesh.proofs.Laws.Complex.Sets.{mem-here, mem-there}
 use Rattle.mesh.proofs.Laws.Star.Walks.{walk-yes, walk_no, walk_none, walk-short}
-use Rattle.mesh.proofs.Laws.Star.Written.{length-written, written_below, written-more, written_none, written_one}
+use Rattle.mesh.proofs.Laws.Star.Written.{written_below, written-more, written_none}
 use Rattle.mesh.proofs.Laws.Star.Chains.{chain-kept, chain-entry}
 
 -- ---- what an entry gives
@@ -113,9 +113,6 @@ module _ {x : Index} {f : List ℕ → ℕ → List ℕ} {w k : ℕ} {all s₀ s
   room-got : k + length g.got ≤ length s₀
   room-got = let h = g.fits in let c = g.count in omega arith
 
-  pub gather-long : length s ≡ length s₀
-  gather-long = ap length g.is ∙ length-written s₀ k g.got room-got
-
   -- room for one entry more
   pub gather-room : 0 < left → k + n + w ≤ length s₀
   gather-room h = let a = g.fits in omega (arith, one-row left w h)
@@ -200,23 +197,6 @@ gather-start x f w k s p left h = record {
 pub put-none : (s : List ℕ) (k : ℕ) (l : List ℕ) → l ≡ [] → (0 ≡ length l) × (s ≡ written s k l)
 put-none s k l e = (ap length (sym e), sym (written_none s k) ∙ ap (written s k) (sym e))
 
-pub slot-none : (x : Index) (s : List ℕ) (v p u : ℕ) → u ≡ corner_at x s p → (u ≡ v → ⊥) → slot_if x s v p ≡ []
-unfolding slot_if
-slot-none x s v p u e n = rw (← e, ne_eqb u v n)
-
-pub slot-one : (x : Index) (s : List ℕ) (v p u : ℕ) → u ≡ corner_at x s p → u ≡ v → slot_if x s v p ≡ p / 4 ∷ []
-unfolding slot_if
-slot-one x s v p u e n = rw (← e, eq-eqb u v n)
-
-pub put_one : (s t : List ℕ) (k u : ℕ) (l : List ℕ) → k < length s → l ≡ u ∷ [] → t ≡ set s k u → (1 ≡ length l) × (t ≡ written s k l)
-put_one s t k u l h e g = (ap length (sym e), g ∙ written_one s k u h ∙ ap (written s k) (sym e))
-
-pub but-none : (v u : ℕ) → u ≡ v → but_for v (u ∷ []) ≡ []
-but-none v u e = rw (eq-eqb u v e)
-
-pub but-one : (v u : ℕ) → (u ≡ v → ⊥) → but_for v (u ∷ []) ≡ u ∷ []
-but-one v u n = rw (ne_eqb u v n)
-
 pub others-none : (x : Index) (s : List ℕ) (v p u : ℕ) → u ≡ corner_at x s p → (u ≡ v → ⊥) → others_if x s v p ≡ []
 unfolding others_if
 others-none x s v p u e n = rw (← e, ne_eqb u v n)
@@ -268,20 +248,31 @@ others_put x s v p k u h eu e a b c d k₁ k₂ k₃ k₄ s₁ s₂ s₃ s₄ ea
     let long : k₄ - k ≡ length (((la ++ lb) ++ lc) ++ ld) = omega arith in
     (long ∙ ap length is, w₄ ∙ ap (written s k) is)
 
--- ---- the two loops begin
+-- ---- the loop begins
 
-pub slots-start : (x : Index) (s : List ℕ) (v k left p : ℕ) → Free x s k (chain_length x s v) → left ≡ chain_length x s v → p ≡ head_of x s v
-    → Gathering x (λ t q. slot_if x t v q) 1 k (slots_met x s v) s s p left 0
-unfolding slots_met chain_of
-slots-start x s v k left p fr el ep =
-    subst (λ (all : List ℕ). Gathering x (λ t q. slot_if x t v q) 1 k all s s p left 0)
-    (ap₂ (λ (i j : ℕ). gather (slot_if x s v) (walk x.room (next_of x s) i j)) el ep)
-    (gather-start x (λ t q. slot_if x t v q) 1 k s p left (let h = fr.fits in omega arith))
+pub each-start : (x : Index) (f : List ℕ → ℕ → List ℕ) (w : ℕ) (s : List ℕ) (v k left p : ℕ) → Free x s k (chain_length x s v * w) → left ≡ chain_length x s v
+    → p ≡ head_of x s v → Gathering x f w k (gather (f s) (chain_of x s v)) s s p left 0
+unfolding chain_of
+each-start x f w s v k left p fr el ep =
+    subst (λ (all : List ℕ). Gathering x f w k all s s p left 0)
+    (ap₂ (λ (i j : ℕ). gather (f s) (walk x.room (next_of x s) i j)) el ep)
+    (gather-start x f w k s p left (rw el fr.fits))
 
-pub others-start : (x : Index) (s : List ℕ) (v k left p : ℕ) → Free x s k (4 * chain_length x s v) → left ≡ chain_length x s v → p ≡ head_of x s v
-    → Gathering x (λ t q. others_if x t v q) 4 k (others_met x s v) s s p left 0
-unfolding others_met chain_of
-others-start x s v k left p fr el ep =
-    subst (λ (all : List ℕ). Gathering x (λ t q. others_if x t v q) 4 k all s s p left 0)
-    (ap₂ (λ (i j : ℕ). gather (others_if x s v) (walk x.room (next_of x s) i j)) el ep)
-    (gather-start x (λ t q. others_if x t v q) 4 k s p left (let h = fr.fits in omega arith))
+-- ---- what the walks gather
+
+module _ (x : Index) (s : List ℕ) (v k : ℕ) where
+  -- the slots where v stands
+  module _ (fr : Free x s k (chain_length x s v)) where
+    pub slots-free : Free x s k (chain_length x s v * 1)
+    slots-free = record { laid = fr.laid; behind = fr.behind; fits = let h = fr.fits in omega arith }
+
+    pub slots-steady : Steady x s 1 (λ t p. slot_if x t v p)
+    slots-steady = record { few = slot-short x v s; same = λ t same. slot_same x v s t fr.laid same }
+
+  -- their other vertices
+  module _ (fr : Free x s k (4 * chain_length x s v)) where
+    pub others-free : Free x s k (chain_length x s v * 4)
+    others-free = record { laid = fr.laid; behind = fr.behind; fits = let h = fr.fits in omega arith }
+
+    pub others-steady : Steady x s 4 (λ t p. others_if x t v p)
+    others-steady = record { few = others-short x v s; same = λ t same. others_same x v s t fr.laid same }

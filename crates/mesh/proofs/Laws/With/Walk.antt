@@ -1,49 +1,21 @@
 -- The loops over the shorter chain: one that stops at the first slot with all of the vertices, and one that puts all such slots.
 -- Assumes nothing.
-use Rattle.std.proofs.Common.{◌≡◌, ℕ, suc, ◌+◌, ◌-◌, ◌/◌, ◌<◌, ◌≤◌, Bool, true, false, cond, ◌&&◌, ◌||◌, leb, List, [], ◌∷◌, length, take, drop, sym, ap, ◌∙◌, subst, ap₂, arith, le-leb}
-use mathlib.Core.Bool.{and-true}
-use borrow.Author.Tests.{lt-leb}
+use Rattle.std.proofs.Common.{◌≡◌, ℕ, suc, ◌+◌, ◌-◌, ◌/◌, ◌<◌, ◌≤◌, Bool, true, false, cond, ◌||◌, List, [], ◌∷◌, length, take, drop, sym, ap, ◌∙◌, ap₂, arith}
 use Rattle.mesh.specs.declared.star.Index.{Index}
 use Rattle.mesh.specs.Words.{word_at}
-use Rattle.mesh.specs.Complex.{mem, sub}
-use Rattle.mesh.specs.inside.Star.{walk, gather, corners_at, next_of, head_of, chain_length, chain_of, Laid, Free, room_for, distinct, written, listed}
+use Rattle.mesh.specs.Complex.{sub}
+use Rattle.mesh.specs.inside.Star.{walk, next_of, head_of, chain_length, chain_of, Laid, Free, Steady, room_for, distinct, written, listed}
 use Rattle.mesh.specs.Tests.{any}
 use Rattle.mesh.specs.inside.With.{rarer, entry_has, with_if, with_met, any_with, with_room, with_list, with_in}
 use Rattle.mesh.proofs.Laws.Star.Layout.{room-is}
 use Rattle.mesh.proofs.Laws.Star.Walks.{walk-yes, walk_no, walk_none}
 use Rattle.mesh.proofs.Laws.Star.Written.{length-written}
-use Rattle.mesh.proofs.Laws.Star.Gathering.{Gathering, gather-start, gather-short, chain-short, corners-same}
+use Rattle.mesh.proofs.Laws.Star.Gathering.{gather-short, chain-short, corners-same}
 use Rattle.mesh.proofs.Laws.Star.Answers.{ordered-is}
-
--- ---- the shorter chain
-
-module _ (x : Index) (s : List ℕ) (v w m n : ℕ) (em : m ≡ chain_length x s v) (en : n ≡ chain_length x s w) where
-  test : (b : Bool) → leb m n ≡ b → leb (chain_length x s v) (chain_length x s w) ≡ b
-  test b e = sym (ap₂ leb em en) ∙ e
-
-  pub rarer-first : m ≤ n → v ≡ rarer x s v w
-  unfolding rarer
-  rarer-first h = sym (ap (λ (b : Bool). cond b v w) (test true (le-leb m n h)))
-
-  pub rarer-second : n < m → w ≡ rarer x s v w
-  unfolding rarer
-  rarer-second h = sym (ap (λ (b : Bool). cond b v w) (test false (lt-leb m n h)))
 
 -- ---- what an entry gives
 
 module _ (x : Index) (s : List ℕ) (p : ℕ) where
-  pub has-not : (v : ℕ) (σ : List ℕ) → mem v (corners_at x s (p / 4)) ≡ false → entry_has x s (v ∷ σ) p ≡ false
-  unfolding entry_has
-  has-not v σ h = ap (λ (b : Bool). b && sub σ (corners_at x s (p / 4))) h
-
-  pub has_rest : (v : ℕ) (σ : List ℕ) → mem v (corners_at x s (p / 4)) ≡ true → entry_has x s (v ∷ σ) p ≡ entry_has x s σ p
-  unfolding entry_has
-  has_rest v σ h = ap (λ (b : Bool). b && sub σ (corners_at x s (p / 4))) h
-
-  pub has_last : (v : ℕ) → entry_has x s (v ∷ []) p ≡ mem v (corners_at x s (p / 4))
-  unfolding entry_has
-  has_last v = and-true (mem v (corners_at x s (p / 4)))
-
   pub with_none : (σ : List ℕ) → entry_has x s σ p ≡ false → with_if x s σ p ≡ []
   unfolding with_if
   with_none σ h = rw h
@@ -65,6 +37,10 @@ pub with-same : (x : Index) (σ s t : List ℕ) {m : ℕ} → Laid x m → ((j :
     → with_if x t σ p ≡ with_if x s σ p
 unfolding with_if entry_has
 with-same x σ s t l same p h = ap (λ (us : List ℕ). cond (sub σ us) (p / 4 ∷ []) []) (corners-same x s t l same p h)
+
+-- so a walk may put them
+pub with-steady : (x : Index) (s σ : List ℕ) → Laid x (length s) → Steady x s 1 (λ t p. with_if x t σ p)
+with-steady x s σ l = record { few = λ p. with-short x s p σ; same = λ t same p h. with-same x σ s t l same p h }
 
 -- no more slots than entries
 pub met-short : (x : Index) (s : List ℕ) (a : ℕ) (σ : List ℕ) → length (with_met x s a σ) ≤ chain_length x s a
@@ -110,19 +86,6 @@ module _ {x : Index} {s σ : List ℕ} {r : Bool} {p left : ℕ} (g : Seeking x 
 
     pub seek-turn : entry_has x s σ p ≡ false → (q : ℕ) → q ≡ next_of x s p → Seeking x s σ r q (left - 1)
     seek-turn e q eq = record { is = ap (λ (i : ℕ). any (entry_has x s σ) (walk x.room (next_of x s) (left - 1) i)) eq ∙ rest false e }
-
--- ---- the loop that puts slots
-
--- what holds at its head
-abbrev pub Putting : Index → List ℕ → ℕ → List ℕ → List ℕ → ℕ → ℕ → ℕ → Type 0
-Putting x σ a s₀ s p left n = Gathering x (λ t q. with_if x t σ q) 1 x.area (with_met x s₀ a σ) s₀ s p left n
-
-pub put-start : (x : Index) (s σ : List ℕ) (a left p : ℕ) → Free x s x.area (chain_length x s a) → left ≡ chain_length x s a → p ≡ head_of x s a → Putting x σ a s s p left 0
-unfolding with_met chain_of
-put-start x s σ a left p fr el ep =
-    subst (λ (all : List ℕ). Gathering x (λ t q. with_if x t σ q) 1 x.area all s s p left 0)
-    (ap₂ (λ (i j : ℕ). gather (with_if x s σ) (walk x.room (next_of x s) i j)) el ep)
-    (gather-start x (λ t q. with_if x t σ q) 1 x.area s p left (let h = fr.fits in omega arith))
 
 -- ---- the answer
 

@@ -24,11 +24,11 @@ overflow_mul-i c = omega (arith, listing-fit c.args.x c.args.n c.args.s.now (sym
 pub overflow_add-a-in-loop-i-2 : goal.overflow_add-a-in-loop-i-2
 overflow_add-a-in-loop-i-2 c = omega (arith, listing-fit c.args.x c.args.n c.args.s.now (sym c.has_space.ensures ∙ c.if-not-has_space.false), c.loop-i-test.true)
 
-pub put_four-requires : goal.put_four-requires
-put_four-requires c = omega (arith, listing-fit c.args.x c.args.n c.args.s.now (sym c.has_space.ensures ∙ c.if-not-has_space.false), c.loop-i-test.true, listing-long c.args.x c.args.n c.args.s.now (sym c.has_space.ensures ∙ c.if-not-has_space.false) c.loop-i.invariant)
+pub put_row-requires : goal.put_row-requires
+put_row-requires c = omega (arith, listing-fit c.args.x c.args.n c.args.s.now (sym c.has_space.ensures ∙ c.if-not-has_space.false), c.loop-i-test.true, listing-long c.args.x c.args.n c.args.s.now (sym c.has_space.ensures ∙ c.if-not-has_space.false) c.loop-i.invariant)
 
 pub loop-i-preserved : goal.loop-i-preserved
-loop-i-preserved c = listing-turn c.args.x c.args.n c.args.s.now (sym c.has_space.ensures ∙ c.if-not-has_space.false) c.loop-i.invariant c.loop-i-test.true _ c.word-e.ensures _ c.slot_at-t.ensures _ c.put_four.ensures
+loop-i-preserved c = listing-turn c.args.x c.args.n c.args.s.now (sym c.has_space.ensures ∙ c.if-not-has_space.false) c.loop-i.invariant c.loop-i-test.true _ c.word.ensures _ c.slot_at-t.ensures _ c.put_row.ensures
 
 pub shape_of-s : goal.shape_of-s
 shape_of-s c = listing-long c.args.x c.args.n c.args.s.now (sym c.has_space.ensures ∙ c.if-not-has_space.false) c.loop-i.invariant

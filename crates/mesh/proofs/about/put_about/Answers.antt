@@ -1,25 +1,27 @@
 -- `mesh::about::put_about` meets its contract. The invariant: the slots put and those of the members left are all. Assumes nothing.
-use Rattle.std.proofs.Common.{refl, arith}
+use Rattle.std.proofs.Common.{◌≡◌, ◌+◌, ◌-◌, refl, arith}
 use Rattle.mesh.proofs.Laws.About.Answer.{about-room, put-start, put-long, put-free, put_count, put-turn, put-end}
 use Rattle.mesh.proofs.about.put_about.Goals as goal
 
-pub loop-left-init : goal.loop-left-init
-loop-left-init c = put-start c.args.x c.args.s.now c.args.from c.args.count c.args.step (c.requires)
+pub loop-init : goal.loop-init
+loop-init c = let e : c.args.count - 0 ≡ c.args.count = omega arith in rw e (put-start c.args.x c.args.s.now c.args.from c.args.count c.args.step c.requires)
 
 pub overflow_add-a : goal.overflow_add-a
-overflow_add-a c = let h = (put-free (about-room c.args.x c.args.s.now c.args.from c.args.count c.args.step (c.requires)).0 c.loop-left.invariant c.loop-left-test.true _ c.word-v.ensures).fits in omega (arith, put-long (about-room c.args.x c.args.s.now c.args.from c.args.count c.args.step (c.requires)).0 c.loop-left.invariant)
+overflow_add-a c = let h = (put-free (about-room c.args.x c.args.s.now c.args.from c.args.count c.args.step (c.requires)).0 c.loop.invariant (omega arith) _ c.word-v.ensures).fits in omega (arith, put-long (about-room c.args.x c.args.s.now c.args.from c.args.count c.args.step (c.requires)).0 c.loop.invariant)
 
 pub put_slots-k-requires : goal.put_slots-k-requires
-put_slots-k-requires c = put-free (about-room c.args.x c.args.s.now c.args.from c.args.count c.args.step (c.requires)).0 c.loop-left.invariant c.loop-left-test.true _ c.word-v.ensures
+put_slots-k-requires c = put-free (about-room c.args.x c.args.s.now c.args.from c.args.count c.args.step (c.requires)).0 c.loop.invariant (omega arith) _ c.word-v.ensures
 
 pub overflow_add-n : goal.overflow_add-n
-overflow_add-n c = let h = put_count (about-room c.args.x c.args.s.now c.args.from c.args.count c.args.step (c.requires)).0 c.loop-left.invariant c.loop-left-test.true _ c.word-v.ensures _ _ c.put_slots-k.ensures.0 c.put_slots-k.ensures.1 in omega arith
+overflow_add-n c = let h = put_count (about-room c.args.x c.args.s.now c.args.from c.args.count c.args.step (c.requires)).0 c.loop.invariant (omega arith) _ c.word-v.ensures _ _ c.put_slots-k.ensures.0 c.put_slots-k.ensures.1 in omega arith
 
-pub loop-left-preserved : goal.loop-left-preserved
-loop-left-preserved c = put-turn (about-room c.args.x c.args.s.now c.args.from c.args.count c.args.step (c.requires)).0 c.loop-left.invariant c.loop-left-test.true _ c.word-v.ensures _ _ c.put_slots-k.ensures.0 c.put_slots-k.ensures.1 _ _ refl c.later-p.ensures
+pub loop-preserved : goal.loop-preserved
+loop-preserved c =
+    let e : c.args.count - c.loop.counter - 1 ≡ c.args.count - (c.loop.counter + 1) = omega arith in
+    rw e at (put-turn (about-room c.args.x c.args.s.now c.args.from c.args.count c.args.step (c.requires)).0 c.loop.invariant (omega arith) _ c.word-v.ensures _ _ c.put_slots-k.ensures.0 c.put_slots-k.ensures.1 _ _ refl c.later-p.ensures)
 
 pub shape_of-s : goal.shape_of-s
-shape_of-s c = put-long (about-room c.args.x c.args.s.now c.args.from c.args.count c.args.step (c.requires)).0 c.loop-left.invariant
+shape_of-s c = put-long (about-room c.args.x c.args.s.now c.args.from c.args.count c.args.step (c.requires)).0 c.loop.invariant
 
 pub returns : goal.returns
-returns c = put-end (about-room c.args.x c.args.s.now c.args.from c.args.count c.args.step (c.requires)).0 c.loop-left.invariant c.loop-left-test.false
+returns c = put-end (about-room c.args.x c.args.s.now c.args.from c.args.count c.args.step (c.requires)).0 c.loop.invariant (omega arith)

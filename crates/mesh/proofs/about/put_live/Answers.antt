@@ -6,4 +6,4 @@ pub returns-then-t : goal.returns-then-t
 returns-then-t c = gone-put c.args.s.now c.args.k _ _ c.slot_at-t.ensures c.if-t.true
 
 pub returns : goal.returns
-returns c = live-put c.args.s.now c.args.k _ _ c.slot_at-t.ensures c.if-t.false _ c.put_four.ensures
+returns c = live-put c.args.s.now c.args.k _ _ c.slot_at-t.ensures c.if-t.false _ c.put_row.ensures

@@ -1,20 +1,15 @@
--- `mesh::intake::all_upright` meets its contract. The invariant: what is left of the list from e on is the whole. Assumes nothing.
-use Rattle.std.proofs.Common.{sym, refl, ap, ◌∙◌, arith}
-use Rattle.std.proofs.Common.{not}
-use Rattle.mesh.proofs.Laws.Intake.Chains.{fails_by, holds_by}
-use Rattle.mesh.proofs.Laws.Intake.Every.{tets-turn, tets-fail, tets-end}
-use Rattle.mesh.specs.Intake.{upright}
+-- `mesh::intake::all_upright` meets its contract: the test of each element in turn. Assumes nothing.
+use Rattle.std.proofs.Common.{ℕ, refl, ◌∙◌, arith, rules, tests}
+use Rattle.std.proofs.lemmas.Iterator.{YieldsList-from_range}
+use Rattle.std.proofs.lemmas.Iterator.Search.{all_from_yields_List}
 use Rattle.mesh.specs.Words.{points_of}
+use Rattle.mesh.specs.Intake.{upright}
+use Rattle.mesh.specs.inside.Intake.{tet_at}
+use Rattle.mesh.proofs.Laws.Intake.Every.{tets-all}
 use Rattle.mesh.proofs.intake.all_upright.Goals as goal
 
-pub loop-e-init : goal.loop-e-init
-loop-e-init c = (omega arith, refl)
-
-pub returns-then-not-is_above : goal.returns-then-not-is_above
-returns-then-not-is_above c = sym (tets-fail (upright (points_of c.args.nv c.args.points.now)) c.args.n c.args.elements.now c.loop-e.e c.loop-e-test.true c.loop-e.invariant.1 (fails_by (c.is_above.ensures ∙ ap (upright (points_of c.args.nv c.args.points.now)) c.tet_at-t.ensures) (ap not c.if-not-is_above.true)))
-
-pub loop-e-preserved : goal.loop-e-preserved
-loop-e-preserved c = (omega arith, tets-turn (upright (points_of c.args.nv c.args.points.now)) c.args.n c.args.elements.now c.loop-e.e c.loop-e-test.true c.loop-e.invariant.1 (holds_by (c.is_above.ensures ∙ ap (upright (points_of c.args.nv c.args.points.now)) c.tet_at-t.ensures) (ap not c.if-not-is_above.false)))
-
 pub returns : goal.returns
-returns c = sym (tets-end (upright (points_of c.args.nv c.args.points.now)) c.args.n c.args.elements.now c.loop-e.e c.loop-e-test.false c.loop-e.invariant.1)
+returns c =
+    let a = c.args in
+    all_from_yields_List (λ (i : ℕ). upright (points_of a.nv a.points.now) (tet_at a.elements.now i)) _ _ _ c.all.ensures.ran (YieldsList-from_range 0 a.n a.n refl (omega arith)) (λ x b q k. search (rules, tests))
+    ∙ tets-all (upright (points_of a.nv a.points.now)) a.n a.elements.now

@@ -1,16 +1,23 @@
--- `mesh::intake::none_twice` meets its contract. The invariant: what is left of the rows from p on is the whole. Assumes nothing.
-use Rattle.std.proofs.Common.{sym, refl, ◌∙◌, arith}
+-- `mesh::intake::none_twice` meets its contract. The invariant: what is left from the row before i on is the whole. Assumes nothing.
+use Rattle.std.proofs.Common.{◌≡◌, ◌+◌, ◌-◌, ◌*◌, sym, ◌∙◌, arith}
 use Rattle.mesh.proofs.Laws.Intake.Area.{twice-turn, twice-fail, twice-end}
 use Rattle.mesh.proofs.intake.none_twice.Goals as goal
 
-pub loop-left-init : goal.loop-left-init
-loop-left-init c = (omega arith, refl)
-
 pub returns-then-eq_rows : goal.returns-then-eq_rows
-returns-then-eq_rows c = sym (sym c.loop-left.invariant.1 ∙ twice-fail c.args.s.now c.loop-left.p c.loop-left.left c.loop-left-test.true (sym c.eq_rows.ensures ∙ c.if-eq_rows.true))
+returns-then-eq_rows c =
+    let i = c.loop-i.i in
+    let e : 4 * i ≡ 4 * (i - 1) + 4 = omega arith in
+    sym (sym c.loop-i.invariant ∙ twice-fail c.args.s.now (4 * (i - 1)) (c.args.n - (i - 1)) (omega arith) (rw e at (sym c.eq_rows.ensures ∙ c.if-eq_rows.true)))
 
-pub loop-left-preserved : goal.loop-left-preserved
-loop-left-preserved c = (omega arith, twice-turn c.args.s.now c.loop-left.p c.loop-left.left c.loop-left-test.true (sym c.eq_rows.ensures ∙ c.if-eq_rows.false) ∙ c.loop-left.invariant.1)
+pub loop-i-preserved : goal.loop-i-preserved
+loop-i-preserved c =
+    let i = c.loop-i.i in
+    let e : 4 * i ≡ 4 * (i - 1) + 4 = omega arith in
+    let e₁ : c.args.n - (i + 1 - 1) ≡ c.args.n - (i - 1) - 1 = omega arith in
+    let e₂ : 4 * (i + 1 - 1) ≡ 4 * (i - 1) + 4 = omega arith in
+    rw (e₁, e₂) (twice-turn c.args.s.now (4 * (i - 1)) (c.args.n - (i - 1)) (omega arith) (rw e at (sym c.eq_rows.ensures ∙ c.if-eq_rows.false)) ∙ c.loop-i.invariant)
 
 pub returns : goal.returns
-returns c = sym (sym c.loop-left.invariant.1 ∙ twice-end c.args.s.now c.loop-left.p c.loop-left.left c.loop-left-test.false)
+returns c =
+    let i = c.loop-i.i in
+    sym (sym c.loop-i.invariant ∙ twice-end c.args.s.now (4 * (i - 1)) (c.args.n - (i - 1)) (omega arith))

@@ -1,19 +1,12 @@
--- `mesh::manifold::all_below` meets its contract. The invariant: the words passed are below b. Assumes nothing.
-use Rattle.std.proofs.Common.{ltb, refl, arith, le-ltb, lt-ltb}
-use Rattle.mesh.proofs.Laws.Manifold.Steps.{words-turn, words-fail, words-end}
+-- `mesh::manifold::all_below` meets its contract. Assumes nothing.
+use Rattle.std.proofs.Common.{rules, ◌∙◌, ltb, take}
+use Rattle.std.proofs.lemmas.Iterator.{YieldsList-from_slice}
+use Rattle.std.proofs.lemmas.Iterator.Search.{all_from_yields_List}
+use borrow.Author.Tests.{tests}
+use Rattle.mesh.proofs.Laws.Every.{every_is}
 use Rattle.mesh.proofs.manifold.all_below.Goals as goal
 
-pub loop-i-init : goal.loop-i-init
-loop-i-init c = (omega arith, refl)
-
-pub overflow_cast-s : goal.overflow_cast-s
-overflow_cast-s c = omega (arith, c.type_inv.s c.loop-i.i)
-
-pub returns-then-b-s : goal.returns-then-b-s
-returns-then-b-s c = let a = c.args in words-fail (λ x. ltb x a.b) a.s.now a.n c.loop-i.i (c.requires) c.loop-i-test.true c.loop-i.invariant.1 (le-ltb _ a.b c.if-b-s.true)
-
-pub loop-i-preserved : goal.loop-i-preserved
-loop-i-preserved c = let a = c.args in (omega arith, words-turn (λ x. ltb x a.b) a.s.now a.n c.loop-i.i (c.requires) c.loop-i-test.true c.loop-i.invariant.1 (lt-ltb _ a.b c.if-b-s.false))
-
 pub returns : goal.returns
-returns c = let a = c.args in words-end (λ x. ltb x a.b) a.s.now a.n c.loop-i.i (c.requires) c.loop-i-test.false c.loop-i.invariant.1
+returns c =
+    all_from_yields_List (λ x. ltb x c.args.b) _ _ _ c.all.ensures.ran (YieldsList-from_slice (take c.args.n c.args.s.now) cc) (λ x b q k. search (rules, tests))
+    ∙ every_is (λ x. ltb x c.args.b) (take c.args.n c.args.s.now)

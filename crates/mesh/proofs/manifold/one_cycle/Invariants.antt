@@ -1,10 +1,8 @@
 -- `mesh::manifold::one_cycle` meets its contract. The invariant: what is marked, and the rounds that are left from there. Assumes nothing.
+use Rattle.std.proofs.Common.{◌-◌}
 use Rattle.mesh.proofs.Laws.Manifold.Growth.{Reaching}
 use Rattle.mesh.proofs.Laws.Manifold.Cycles.{pairs_at}
 use Rattle.mesh.proofs.manifold.one_cycle.Given as goal
 
-abbrev pub invariant-loop-left : goal.invariant-loop-left
-invariant-loop-left l = Reaching l.base l.mark (pairs_at l.p l.k l.initial.area) l.start l.k l.initial.area l.area l.left l.count
-
-abbrev pub decreases-loop-left : goal.decreases-loop-left
-decreases-loop-left l = l.left
+abbrev pub invariant-loop-round : goal.invariant-loop-round
+invariant-loop-round l = Reaching l.base l.mark (pairs_at l.p l.k l.initial.area) l.start l.k l.initial.area l.area (l.k - l._round) l.count

@@ -12,11 +12,11 @@ overflow_mul-k c = omega (arith, c.loop-k.invariant.bound)
 pub overflow_add-p : goal.overflow_add-p
 overflow_add-p c = omega (arith, c.loop-k.invariant.bound, c.requires)
 
-pub put_five-requires : goal.put_five-requires
-put_five-requires c = omega (arith, c.loop-k-test.true, c.requires, (faces-kept c.args.i c.args.mark c.args.t c.args.p c.args.area.now (c.requires) c.loop-k.invariant).long)
+pub put_row-requires : goal.put_row-requires
+put_row-requires c = omega (arith, c.loop-k-test.true, c.requires, (faces-kept c.args.i c.args.mark c.args.t c.args.p c.args.area.now (c.requires) c.loop-k.invariant).long)
 
 pub loop-k-preserved : goal.loop-k-preserved
-loop-k-preserved c = faces-turn c.args.i c.args.mark c.args.t c.args.p c.args.area.now (c.requires) c.loop-k.invariant c.loop-k-test.true c.tet_face.ensures c.face_key-f.ensures c.put_five.new.area c.put_five.ensures
+loop-k-preserved c = faces-turn c.args.i c.args.mark c.args.t c.args.p c.args.area.now (c.requires) c.loop-k.invariant c.loop-k-test.true c.tet_face.ensures c.face_key-f.ensures c.put_row.new.area c.put_row.ensures
 
 pub shape_of-area : goal.shape_of-area
 shape_of-area c = (faces-kept c.args.i c.args.mark c.args.t c.args.p c.args.area.now (c.requires) c.loop-k.invariant).long

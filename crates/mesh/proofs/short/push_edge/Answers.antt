@@ -1,10 +1,10 @@
 -- `mesh::short::push_edge` meets its contract: one row where the edge is short. Assumes nothing.
-use Rattle.mesh.specs.Words.{points_of}
+use Rattle.mesh.specs.Words.{points_in}
 use Rattle.mesh.proofs.Laws.Short.Push.{edge-less, edge-put}
 use Rattle.mesh.proofs.short.push_edge.Goals as goal
 
 pub returns-then-length-limit : goal.returns-then-length-limit
-returns-then-length-limit c = edge-put (points_of c.args.nv c.args.points.now) c.args.limit c.args.e c.args.p c.args.area.now c.edge_length-length.result c.edge_length-length.ensures c.put_four.new.area c.order_bits-bits.result c.high_half.result c.low_half.result c.order_bits-bits.ensures c.high_half.ensures c.low_half.ensures (c.requires) c.if-length-limit.true c.put_four.ensures
+returns-then-length-limit c = edge-put (points_in c.args.points) c.args.limit c.args.e c.args.p c.args.area.now c.edge_length-length.result c.edge_length-length.ensures c.put_row.new.area c.order_bits-bits.result c.high_half.result c.low_half.result c.order_bits-bits.ensures c.high_half.ensures c.low_half.ensures (c.requires) c.if-length-limit.true c.put_row.ensures
 
 pub returns : goal.returns
-returns c = edge-less (points_of c.args.nv c.args.points.now) c.args.limit c.args.e c.args.p c.args.area.now c.edge_length-length.result c.edge_length-length.ensures c.if-length-limit.false
+returns c = edge-less (points_in c.args.points) c.args.limit c.args.e c.args.p c.args.area.now c.edge_length-length.result c.edge_length-length.ensures c.if-length-limit.false

@@ -1,11 +1,8 @@
--- `mesh::strata::stratum_inside` meets its contract, call by call. Assumes nothing.
-use Rattle.std.proofs.Common.{ℕ, ◌∙◌, ap₂}
+-- `mesh::strata::stratum_inside` meets its contract. Assumes nothing.
+use Rattle.std.proofs.Common.{ℕ, ap, ◌∙◌}
 use Rattle.mesh.specs.Complex.{sub}
 use Rattle.mesh.specs.Feature.{bits_of}
 use Rattle.mesh.proofs.strata.stratum_inside.Goals as goal
 
-pub bits_inside-requires : goal.bits_inside-requires
-bits_inside-requires c = c.stratum_at-m.ensures.1
-
 pub returns : goal.returns
-returns c = c.bits_inside.ensures ∙ ap₂ (λ (u v : ℕ). sub (bits_of u) (bits_of v)) c.stratum_at-m.ensures.0 c.stratum_at.ensures.0
+returns c = c.is_inside.ensures ∙ ap (λ (f : ℕ → ℕ). sub (bits_of (f c.args.u)) (bits_of (f c.args.v))) c.new.ensures

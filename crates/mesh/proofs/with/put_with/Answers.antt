@@ -1,32 +1,13 @@
--- `mesh::with::put_with` meets its contract. The invariant is `Putting`: the slots got, and those that are left. Assumes nothing.
-use Rattle.std.proofs.Common.{[], ◌∷◌, arith}
-use Rattle.mesh.proofs.Laws.Star.Gathering.{gather-long, gather-room, gather-count, gather-turn, gather-stop, gather-end}
-use Rattle.mesh.proofs.Laws.With.Walk.{put-start, with-short, with-same}
+-- `mesh::with::put_with` meets its contract. Assumes nothing.
+use Rattle.std.proofs.Common.{[], ◌∷◌}
+use Rattle.mesh.specs.inside.With.{with_met}
+use Rattle.mesh.proofs.Laws.Star.Gathering.{slots-free}
+use Rattle.mesh.proofs.Laws.With.Walk.{with-steady}
 use Rattle.mesh.proofs.with.put_with.Goals as goal
 
-pub loop-left-init : goal.loop-left-init
-loop-left-init c = put-start c.args.x c.args.s.now (c.args.v ∷ c.args.w ∷ []) c.args.a _ _ c.requires c.chain_length-left.ensures.0 c.word_in-p.ensures
-
-pub shape_of-s-then-x-p : goal.shape_of-s-then-x-p
-shape_of-s-then-x-p c = gather-long c.requires.laid c.requires.behind c.loop-left.invariant
-
-pub returns-then-x-p : goal.returns-then-x-p
-returns-then-x-p c = gather-stop c.requires.laid c.requires.behind c.loop-left.invariant c.if-x-p.true
-
-pub overflow_add-x : goal.overflow_add-x
-overflow_add-x c = let h = gather-room c.requires.laid c.requires.behind c.loop-left.invariant c.loop-left-test.true in omega arith
-
-pub put_two-m-requires : goal.put_two-m-requires
-put_two-m-requires c = let h = gather-room c.requires.laid c.requires.behind c.loop-left.invariant c.loop-left-test.true in omega (arith, gather-long c.requires.laid c.requires.behind c.loop-left.invariant)
-
-pub overflow_add-n : goal.overflow_add-n
-overflow_add-n c = let h = gather-count c.requires.laid c.requires.behind c.loop-left.invariant (λ q. with-short c.args.x c.args.s.now q (c.args.v ∷ c.args.w ∷ [])) (λ rd h. with-same c.args.x (c.args.v ∷ c.args.w ∷ []) c.args.s.now c.loop-left.s c.requires.laid rd c.loop-left.p h) c.loop-left-test.true c.if-x-p.false _ _ c.put_two-m.ensures.0 c.put_two-m.ensures.1 in omega arith
-
-pub loop-left-preserved : goal.loop-left-preserved
-loop-left-preserved c = gather-turn c.requires.laid c.requires.behind c.loop-left.invariant (λ q. with-short c.args.x c.args.s.now q (c.args.v ∷ c.args.w ∷ [])) (λ rd h. with-same c.args.x (c.args.v ∷ c.args.w ∷ []) c.args.s.now c.loop-left.s c.requires.laid rd c.loop-left.p h) c.loop-left-test.true c.if-x-p.false _ _ c.put_two-m.ensures.0 c.put_two-m.ensures.1 _ c.word_in-p-in-loop-left.ensures
-
-pub shape_of-s : goal.shape_of-s
-shape_of-s c = gather-long c.requires.laid c.requires.behind c.loop-left.invariant
+pub put_each-requires : goal.put_each-requires
+put_each-requires c = record { free = slots-free c.args.x c.args.s.now c.args.a c.args.x.area c.requires; steady = with-steady c.args.x c.args.s.now (c.args.v ∷ c.args.w ∷ []) c.requires.laid }
 
 pub returns : goal.returns
-returns c = gather-end c.requires.laid c.requires.behind c.loop-left.invariant c.loop-left-test.false
+unfolding with_met
+returns c = c.put_each.ensures

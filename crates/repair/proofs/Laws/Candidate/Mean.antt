@@ -2,15 +2,18 @@
 use mathlib.Core.Path.{◌≡◌, sym, ap, ap₂, ◌∙◌}
 use mathlib.Core.Bool.{true}
 use mathlib.Core.List.{List, map}
-use Prim.Native.Nat.{ℕ, suc, ◌+◌, ◌^◌, ◌≤◌, ◌<◌, min}
+use Prim.Native.Nat.{ℕ, ◌+◌, ◌^◌, ◌≤◌, ◌<◌, min}
+use mathlib.Core.Logic.{inl, inr}
+use borrow.Author.Tests.{leb-true, leb-false}
+use Rattle.mesh.proofs.Laws.Bools.{split}
 use native.Mathlib.Nat.{lt_of_le_of_lt}
 use native.Mathlib.Numerals.{add-one}
 use native.Mathlib.Omega.{arith}
-use lib.Dec.{T, lit<}
+use lib.Dec.{T, leb, lit<}
 use lib.IntN.{pos}
 use lib.Ieee.{fin, binary64, in_float}
-use lib.ListN.{length, take, drop, get_or, drop_of_length-le, length-take, length-map}
-use lib.Seq.{drop-cons, get_or-take}
+use lib.ListN.{length, take, drop, get_or, drop_of_length-le, length-map}
+use lib.Seq.{drop-cons, take_all}
 use Rattle.geometry.specs.declared.point.Point.{Point}
 use Rattle.geometry.specs.Float.{total_from, total}
 use Rattle.geometry.proofs.Laws.Rank.Away.{in-float}
@@ -30,23 +33,26 @@ abbrev pub minus_zero : Point
 minus_zero = record { x = fin true 0 (pos 0); y = fin true 0 (pos 0); z = fin true 0 (pos 0) }
 
 -- s and the points from the i-th on are the whole
-abbrev pub Summed : (ℕ → Point) → List ℕ → ℕ → ℕ → Point → Type 0
-Summed f l n i s = sum_from s (map f (drop i (take n l))) ≡ sum_from minus_zero (map f (take n l))
+abbrev pub Summed : (ℕ → Point) → List ℕ → ℕ → Point → Type 0
+Summed f l i s = sum_from s (map f (drop i l)) ≡ sum_from minus_zero (map f l)
 
-module _ (f : ℕ → Point) (l : List ℕ) (n m : ℕ) (few : m ≡ min n (length l)) where
-  long : length (take n l) ≡ m
-  long = length-take n l ∙ sym few
-
-  pub sum-turn : (i : ℕ) (s t p : Point) (z : ℕ) → i < m → p ≡ f (get_or l i z) → t ≡ sum s p → Summed f l n i s → Summed f l n (i + 1) t
+module _ (f : ℕ → Point) (l : List ℕ) where
+  pub sum-turn : (i : ℕ) (s t p : Point) (z : ℕ) → i < length l → p ≡ f (get_or l i z) → t ≡ sum s p → Summed f l i s → Summed f l (i + 1) t
   unfolding total_from
   sum-turn i s t p z h e g inv =
-      ap₂ (λ (u : Point) (k : ℕ). sum_from u (map f (drop k (take n l)))) (g ∙ ap (sum s) e) (add-one i)
-      ∙ sym (ap (λ (x : ℕ). sum_from (sum s (f x)) (map f (drop (suc i) (take n l)))) (get_or-take n l i z (omega (arith, few))))
-      ∙ sym (ap (λ (u : List ℕ). sum_from s (map f u)) (drop-cons (take n l) i z (omega (arith, long))))
+      ap₂ (λ (u : Point) (k : ℕ). sum_from u (map f (drop k l))) (g ∙ ap (sum s) e) (add-one i)
+      ∙ sym (ap (λ (u : List ℕ). sum_from s (map f u)) (drop-cons l i z h))
       ∙ inv
 
-  pub sum-end : (i : ℕ) (s r : Point) → m ≤ i → r ≡ divided s m → Summed f l n i s → r ≡ mean (map f (take n l))
+  pub sum-end : (i : ℕ) (s r : Point) → length l ≤ i → r ≡ divided s (length l) → Summed f l i s → r ≡ mean (map f l)
   unfolding total_from total
   sum-end i s r h e inv =
-      e ∙ ap (λ (u : Point). divided u m) (sym (ap (λ (u : List ℕ). sum_from s (map f u)) (drop_of_length-le (take n l) {i = i} (omega (arith, long)))) ∙ inv)
-      ∙ ap (divided (sum_from minus_zero (map f (take n l)))) (sym (length-map (take n l) f ∙ long))
+      e ∙ ap (λ (u : Point). divided u (length l)) (sym (ap (λ (u : List ℕ). sum_from s (map f u)) (drop_of_length-le l {i = i} h)) ∙ inv)
+      ∙ ap (divided (sum_from minus_zero (map f l))) (sym (length-map l f))
+
+-- as many of a list as there are
+pub take_min : (n : ℕ) (l : List ℕ) → take (min n (length l)) l ≡ take n l
+take_min n l = elim (split (leb n (length l))) [
+  | inl h ↦ let k : min n (length l) ≡ n = omega (arith, leb-true n (length l) h) in ap (λ (t : ℕ). take t l) k
+  | inr h ↦ take_all (min n (length l)) l (omega (arith, leb-false n (length l) h)) ∙ sym (take_all n l (omega (arith, leb-false n (length l) h)))
+]

@@ -10,6 +10,7 @@ use lib.ListN.{length, take, drop, length-map}
 use lib.Seq.{get_or-drop, get_or-take, get_or-append-add, length-take-le}
 use borrow.Author.Tests.{le-leb}
 use borrow.Rule.Slice.PartMut.{mid_of, put_mid, mid_len}
+use Rattle.std.specs.List.{CopiedTo, SameBelow, SameFrom}
 use Rattle.geometry.specs.declared.point.Point.{Point}
 use Rattle.geometry.specs.declared.bounds.Options.{Options}
 use Rattle.geometry.specs.Float.{◌*₆₄◌}
@@ -140,7 +141,15 @@ module _ (x : Index) (n : ℕ) (w : List ℕ) (r : Room x n (length w)) (k : ℕ
           ∙ ap₂ (λ (u : List ℕ) (v : ℕ). word_at u (v + j)) p-is (sym f)
           ∙ get_or-append-add (take (4 * k) part) (rows ++ zero_words (length part - (4 * k + length rows))) j 0
 
-      module _ (w₃ : List ℕ) (done : ((j : ℕ) → j < 4 * q → word_at w₃ (edges_at x + j) ≡ word_at w₂ (x.area + 4 * k + j)) × Same w₂ w₃ (edges_at x) (edges_at x + 4 * q)) where
+      -- copied to the edges' area
+      module _ (w₃ : List ℕ) (d c : ℕ) (ed : d ≡ edges_at x) (ec : c ≡ 4 * q) (long : length w₃ ≡ length w₂)
+          (by : CopiedTo w₂ w₃ (x.area + 4 * k) d c × SameBelow w₂ w₃ d × SameFrom w₂ w₃ (d + c)) where
+        done : ((j : ℕ) → j < 4 * q → word_at w₃ (edges_at x + j) ≡ word_at w₂ (x.area + 4 * k + j)) × Same w₂ w₃ (edges_at x) (edges_at x + 4 * q)
+        done = (
+          (λ j h. let i : x.area + 4 * k + (edges_at x + j - d) ≡ x.area + 4 * k + j = omega arith in by.0 (edges_at x + j) 0 (omega arith) (omega arith) ∙ ap (word_at w₂) i),
+          record { long = long; before = λ j h. by.1 j 0 (omega arith); behind = λ j h. by.2 j 0 (omega arith) },
+        )
+
         edges_are : edges_in x q w₃ ≡ es
         edges_are =
             edges-same q (rows ++ zero_words (length part - (4 * k + length rows))) (drop (edges_at x) w₃)

@@ -1,7 +1,7 @@
 -- The boundary of the elements in an area and its nonmanifold test: what `end_surface` answers, and what it leaves. Assumes nothing.
 use mathlib.Core.Path.{◌≡◌, refl, sym, ap, ap₂, ◌∙◌}
 use mathlib.Core.Logic.{inl, inr, ⊎_elim}
-use mathlib.Core.Bool.{Bool, true, false, cond}
+use mathlib.Core.Bool.{true, false, cond}
 use mathlib.Core.List.{List, ◌++◌, map, append_assoc}
 use Prim.Native.Nat.{ℕ, ◌+◌, ◌-◌, ◌*◌, ◌≤◌}
 use native.Mathlib.Omega.{arith}
@@ -12,8 +12,8 @@ use lib.ListN.{length, take, drop, length-append, length-drop, length-replicate,
 use lib.Seq.{take_at, drop_at, take-take, length-take-le}
 use Rattle.mesh.specs.declared.element.Tet.{Tet}
 use Rattle.mesh.specs.declared.element.Triple.{Triple}
-use Rattle.mesh.specs.declared.boundary.Outcome.{Outcome}
-use Rattle.mesh.specs.declared.boundary.Outcome.TheVariants.{Surface, Refused}
+use Rattle.mesh.specs.Surface.{Outcome}
+use Rattle.mesh.specs.Surface.{Surface, Refused}
 use Rattle.mesh.specs.Words.{zero_words, flat}
 use Rattle.mesh.specs.Tests.{every}
 use Rattle.mesh.specs.Element.{tets, corners_of, triples, all_corners, all_vertices}
@@ -289,22 +289,12 @@ module _ (k nv : ℕ) (s₀ : List ℕ) (few : k ≤ 16384) (room : 112 * k + nv
     pub ended : Ended k nv s₀ s r
     ended = ⊎_elim good bad (split (eqb (boundary_number ts) 0))
 
--- ---- `test_surface`
+-- ---- no test
 
 -- s with its part between m and e tested
 abbrev TestedAs : ℕ → ℕ → List ℕ → Outcome → Outcome → List ℕ → Type 0
 TestedAs m e s f r t = (r ≡ tested_outcome f (mid_of m (e - m) s)) × (t ≡ put_mid m (e - m) s (tested_part f (mid_of m (e - m) s)))
 
-module _ (m e : ℕ) (s : List ℕ) {f : Outcome} {c : ℕ} (hf : f ≡ Surface c) {b : Bool} {p : List ℕ}
-    (h : ◌≡◌ {A = Tested} (record { answer = b; area = p }) (nonmanifold_in c (mid_of m (e - m) s))) where
-  surface-tested : (r : Outcome) → r ≡ cond b (Refused 22) (Surface c) → TestedAs m e s f r (put_mid m (e - m) s p)
-  surface-tested r q = rw hf (q ∙ ap (λ (u : Tested). cond u.answer (Refused 22) (Surface c)) h, ap (λ (u : Tested). put_mid m (e - m) s u.area) h)
-
-  pub surface-refused : b ≡ true → TestedAs m e s f (Refused 22) (put_mid m (e - m) s p)
-  surface-refused q = surface-tested (Refused 22) (rw q refl)
-
-  pub surface-taken : b ≡ false → TestedAs m e s f (Surface c) (put_mid m (e - m) s p)
-  surface-taken q = surface-tested (Surface c) (rw q refl)
-
+-- a refusal is not tested
 pub none-tested : (m e : ℕ) (s : List ℕ) {f : Outcome} {n : ℕ} → f ≡ Refused n → TestedAs m e s f (Refused n) s
 none-tested m e s hf = rw hf (refl, sym (put_same m (e - m) s))

@@ -76,9 +76,6 @@ module _ {pts : List Float} {u n : ℕ} {area : List ℕ} {fl₀ : List Float} {
       next : 3 * (i + 1) ≡ suc (suc (suc (3 * i)))
       next = omega arith
 
-  pub pointed-end : n ≤ i → take (3 * n) fl ≡ floats_of (map (point_in pts) (listed u n area))
-  pointed-end h = let e : n ≡ i = omega (arith, P.far) in rw e P.done
-
 -- the points listed and copied
 pub points-moved : (pts : List Float) (u n : ℕ) (area : List ℕ) (fl : List Float) → 3 * n ≤ length fl → 3 * n ≤ length pts
     → take (3 * n) fl ≡ floats_of (map (point_in pts) (listed u n area)) → {t : List Float} → t ≡ copied fl 0 pts 0 (3 * n) → t ≡ moved_points (listed u n area) pts
@@ -91,9 +88,6 @@ pub record Masked (ms : List ℕ) (u t n : ℕ) (s₀ : List ℕ) (i : ℕ) (s :
   pub far : i ≤ n
   pub kept : KeptBelow t s₀ s
   pub done : take i (drop t s) ≡ map (word_at ms) (take i (drop u s₀))
-
-pub masked-start : (ms : List ℕ) (u t n : ℕ) (s : List ℕ) → Masked ms u t n s 0 s
-masked-start ms u t n s = record { far = omega arith; kept = record { front = refl; long = refl }; done = refl }
 
 module _ {ms : List ℕ} {u t n : ℕ} {s₀ : List ℕ} {i : ℕ} {s : List ℕ} (M : Masked ms u t n s₀ i s) where
   pub masked-turn : u + n ≤ t → t + n ≤ length s₀ → i < n → {v : ℕ} → v ≡ word_at s (u + i) → {x : ℕ} → x ≡ word_at ms v → {s₁ : List ℕ} → s₁ ≡ set s (t + i) x
@@ -113,9 +107,6 @@ module _ {ms : List ℕ} {u t n : ℕ} {s₀ : List ℕ} {i : ℕ} {s : List ℕ
             ∙ sym (map-append (word_at ms) (take i (drop u s₀)) (word_at (drop u s₀) i ∷ []))
             ∙ ap (map (word_at ms)) (sym (take-suc (drop u s₀) i 0 k) ∙ ap (λ (m : ℕ). take m (drop u s₀)) (sym (add-one i)));
       }
-
-  pub masked-end : n ≤ i → (take n (drop t s) ≡ map (word_at ms) (listed u n s₀)) × KeptBelow t s₀ s
-  masked-end h = let e : n ≡ i = omega (arith, M.far) in rw e (M.done, M.kept)
 
 -- the masks listed and copied
 pub masks-moved : (ms : List ℕ) (u t n : ℕ) (s₀ s : List ℕ) → t + n ≤ length s → n ≤ length ms

@@ -12,8 +12,8 @@ use lib.Seq.{get_or-take}
 use Rattle.geometry.specs.declared.point.Point.{Point}
 use Rattle.mesh.specs.declared.element.Tet.{Tet}
 use Rattle.mesh.specs.declared.intake.Sizes.{Sizes}
-use Rattle.mesh.specs.declared.boundary.Outcome.{Outcome}
-use Rattle.mesh.specs.declared.boundary.Outcome.TheVariants.{Surface, Refused}
+use Rattle.mesh.specs.Surface.{Outcome}
+use Rattle.mesh.specs.Surface.{Surface, Refused}
 use Rattle.mesh.specs.Words.{word_at, point_at, points_of, zero_point, point_in}
 use Rattle.mesh.specs.Tests.{every}
 use Rattle.mesh.specs.Element.{tets, all_corners, all_vertices}
@@ -22,8 +22,8 @@ use Rattle.mesh.specs.Surface.{answer}
 use Rattle.mesh.proofs.Laws.Intake.Reads.{length-tets, elements-front, points-at}
 use Rattle.mesh.proofs.Laws.Boundary.Faces.{map-known}
 use Rattle.mesh.proofs.Laws.Boundary.Whole.{taken-zero, refused-is}
-use Rattle.repair.specs.declared.answer.Answer.{Answer}
-use Rattle.repair.specs.declared.answer.Answer.TheVariants as answers
+use Rattle.repair.specs.Step.{Answer}
+use Rattle.repair.specs.Step as answers
 use Rattle.repair.specs.Mesh.{Mesh}
 use Rattle.repair.specs.Improve.{image_of, place_of, renumbered, end_number}
 use Rattle.repair.specs.Step.{State, mesh_of, floats_of, over, sizes_of, committed}

@@ -4,7 +4,10 @@ use mathlib.Core.Path.{◌≡◌, refl, sym, ap, ap₂, subst, ◌∙◌}
 use mathlib.Core.Logic.{inl, inr}
 use mathlib.Core.Bool.{Bool, true, false, not, cond, ◌&&◌}
 use mathlib.Core.List.{List, [], ◌∷◌, ◌++◌, map}
-use mathlib.Core.Option.{Option, none, some}
+use mathlib.Core.Option as maths
+use Rattle.std.specs.Prelude.{Option, Some, None}
+use Rattle.std.specs.Option.{option_map, unwrap_or}
+use Rattle.std.specs.List.{find}
 use Prim.Native.Nat.{ℕ, zero, suc, ◌+◌, ◌≤◌, ◌<◌}
 use native.Mathlib.Omega.{arith}
 use borrow.Author.Tests.{ne_eqb}
@@ -28,21 +31,42 @@ use Rattle.repair.proofs.Laws.Flip.Owners.{length_without, without-elim}
 -- ---- the first vertex besides σ
 
 module _ (σ : List ℕ) (t : Tet) where
-  pub apex-first : mem t.a σ ≡ false → t.a ≡ get_or (without σ (vertices_of t)) 0 t.d
+  apex-first : mem t.a σ ≡ false → t.a ≡ get_or (without σ (vertices_of t)) 0 t.d
   apex-first h = sym (rw h refl)
 
-  pub apex-second : mem t.a σ ≡ true → mem t.b σ ≡ false → t.b ≡ get_or (without σ (vertices_of t)) 0 t.d
+  apex-second : mem t.a σ ≡ true → mem t.b σ ≡ false → t.b ≡ get_or (without σ (vertices_of t)) 0 t.d
   apex-second g h = sym (rw (g, h) refl)
 
-  pub apex-third : mem t.a σ ≡ true → mem t.b σ ≡ true → mem t.c σ ≡ false → t.c ≡ get_or (without σ (vertices_of t)) 0 t.d
+  apex-third : mem t.a σ ≡ true → mem t.b σ ≡ true → mem t.c σ ≡ false → t.c ≡ get_or (without σ (vertices_of t)) 0 t.d
   apex-third f g h = sym (rw (f, g, h) refl)
 
-  pub apex-last : mem t.a σ ≡ true → mem t.b σ ≡ true → mem t.c σ ≡ true → t.d ≡ get_or (without σ (vertices_of t)) 0 t.d
+  apex-last : mem t.a σ ≡ true → mem t.b σ ≡ true → mem t.c σ ≡ true → t.d ≡ get_or (without σ (vertices_of t)) 0 t.d
   apex-last f g h = sym (rw (f, g, h) (go (mem t.d σ)))
     where
       go : (q : Bool) → get_or (cond (not q) (t.d ∷ []) []) 0 t.d ≡ t.d
       go true = refl
       go false = refl
+
+  -- the first of three that `find` gives
+  pub apex-found : (r : Option ℕ) → option_map (λ v. v) r ≡ find (λ v. not (mem v σ)) (t.a ∷ t.b ∷ t.c ∷ []) → unwrap_or r t.d ≡ get_or (without σ (vertices_of t)) 0 t.d
+  apex-found r e = ap (λ (o : Option ℕ). unwrap_or o t.d) (sym (same r) ∙ e) ∙ first
+    where
+      same : (o : Option ℕ) → option_map (λ v. v) o ≡ o
+      same None = refl
+      same (Some v) = refl
+
+      first : unwrap_or (find (λ v. not (mem v σ)) (t.a ∷ t.b ∷ t.c ∷ [])) t.d ≡ get_or (without σ (vertices_of t)) 0 t.d
+      first =
+          elim (split (mem t.a σ)) [
+            | inl f ↦ elim (split (mem t.b σ)) [
+              | inl g ↦ elim (split (mem t.c σ)) [
+                | inl h ↦ (let k : unwrap_or (find (λ v. not (mem v σ)) (t.a ∷ t.b ∷ t.c ∷ [])) t.d ≡ t.d = rw (f, g, h) refl in k) ∙ apex-last f g h
+                | inr h ↦ (let k : unwrap_or (find (λ v. not (mem v σ)) (t.a ∷ t.b ∷ t.c ∷ [])) t.d ≡ t.c = rw (f, g, h) refl in k) ∙ apex-third f g h
+              ]
+              | inr g ↦ (let k : unwrap_or (find (λ v. not (mem v σ)) (t.a ∷ t.b ∷ t.c ∷ [])) t.d ≡ t.b = rw (f, g) refl in k) ∙ apex-second f g
+            ]
+            | inr f ↦ (let k : unwrap_or (find (λ v. not (mem v σ)) (t.a ∷ t.b ∷ t.c ∷ [])) t.d ≡ t.a = rw f refl in k) ∙ apex-first f
+          ]
 
 -- ---- the owners
 
@@ -88,14 +112,14 @@ one-is (c ∷ x ∷ l) d h = absurd (omega arith)
 module _ (nv : ℕ) (ts : List Tet) (f : Triple) (i j : ℕ) (fl : FaceListed nv ts f i j) where
   -- the test of an owner at the start
   abbrev owns : ℕ → Bool
-  owns k = slot_has (corners_of f) (get_or (map some ts) k none)
+  owns k = slot_has (corners_of f) (get_or (map maths.some ts) k maths.none)
 
   -- the two owners
   pub owners-two : (i < j) × (j < length ts) × (owns i ≡ true) × (owns j ≡ true)
   owners-two =
-      let r = two-kept owns 0 (length (map some ts)) i j fl.owners in
+      let r = two-kept owns 0 (length (map maths.some ts)) i j fl.owners in
       let b = r.1 in
-      (r.0, omega (arith, length-map some ts), r.2, r.3)
+      (r.0, omega (arith, length-map maths.some ts), r.2, r.3)
 
   -- three different corners
   corners-apart : Nodup (corners_of f)
@@ -106,7 +130,7 @@ module _ (nv : ℕ) (ts : List Tet) (f : Triple) (i j : ℕ) (fl : FaceListed nv
 
   -- an element of the start with the face has one vertex besides it
   module _ (s : State) (st : Start ts s) where
-    pub one-apex : (k : ℕ) → k < length ts → owns k ≡ true → (t : Tet) → get_or s.slots k none ≡ some t → well_numbered nv t ≡ true → length (without (corners_of f) (vertices_of t)) ≡ 1
+    pub one-apex : (k : ℕ) → k < length ts → owns k ≡ true → (t : Tet) → get_or s.slots k maths.none ≡ maths.some t → well_numbered nv t ≡ true → length (without (corners_of f) (vertices_of t)) ≡ 1
     one-apex k l h t e ok =
         let g : has_all (corners_of f) t ≡ true = ap (slot_has (corners_of f)) (sym (st k t l e)) ∙ h in
         let r = length_without nv (corners_of f) (vertices_of t) (numbered-element nv t ok) corners-apart g in
@@ -128,12 +152,12 @@ module _ (nv : ℕ) (ts : List Tet) (f : Triple) (i j : ℕ) (fl : FaceListed nv
       turn l = cond (eqb (length l) 2) (two_to_three μ s f (i ∷ j ∷ []) (get_or l 0 0) (get_or l 1 0)) s
 
       -- the trial by what is in the owners' slots
-      try-is : (a b : Option Tet) → get_or s.slots i none ≡ a → get_or s.slots j none ≡ b → try_face μ ts s f ≡ turn (besides (corners_of f) (live (a ∷ b ∷ [])))
+      try-is : (a b : maths.Option Tet) → get_or s.slots i maths.none ≡ a → get_or s.slots j maths.none ≡ b → try_face μ ts s f ≡ turn (besides (corners_of f) (live (a ∷ b ∷ [])))
       unfolding try_face
       try-is a b ea eb =
           ap (λ (l : List ℕ). cond (eqb (length l) 2 && eqb (length (besides (corners_of f) (elements_at s.slots l))) 2)
           (two_to_three μ s f l (get_or (besides (corners_of f) (elements_at s.slots l)) 0 0) (get_or (besides (corners_of f) (elements_at s.slots l)) 1 0)) s) fl.owners
-          ∙ ap₂ (λ (x y : Option Tet). turn (besides (corners_of f) (live (x ∷ y ∷ [])))) ea eb
+          ∙ ap₂ (λ (x y : maths.Option Tet). turn (besides (corners_of f) (live (x ∷ y ∷ [])))) ea eb
 
       -- not two apexes: nothing changes
       idle : (l : List ℕ) → (length l ≡ 2 → ⊥) → turn l ≡ s
@@ -145,20 +169,20 @@ module _ (nv : ℕ) (ts : List Tet) (f : Triple) (i j : ℕ) (fl : FaceListed nv
       alone t h = let e = length-append (without (corners_of f) (vertices_of t)) [] in omega (arith, h)
 
       -- neither is there, or one only: nothing changes
-      pub try-none : get_or s.slots i none ≡ none → get_or s.slots j none ≡ none → try_face μ ts s f ≡ s
+      pub try-none : get_or s.slots i maths.none ≡ maths.none → get_or s.slots j maths.none ≡ maths.none → try_face μ ts s f ≡ s
       unfolding live besides
-      try-none ea eb = try-is none none ea eb ∙ idle [] (λ e. omega arith)
+      try-none ea eb = try-is maths.none maths.none ea eb ∙ idle [] (λ e. omega arith)
 
-      pub try-second : (t : Tet) → get_or s.slots i none ≡ none → get_or s.slots j none ≡ some t → length (without (corners_of f) (vertices_of t)) ≡ 1 → try_face μ ts s f ≡ s
+      pub try-second : (t : Tet) → get_or s.slots i maths.none ≡ maths.none → get_or s.slots j maths.none ≡ maths.some t → length (without (corners_of f) (vertices_of t)) ≡ 1 → try_face μ ts s f ≡ s
       unfolding live
-      try-second t ea eb h = try-is none (some t) ea eb ∙ idle (besides (corners_of f) (t ∷ [])) (λ e. let r = alone t h in omega arith)
+      try-second t ea eb h = try-is maths.none (maths.some t) ea eb ∙ idle (besides (corners_of f) (t ∷ [])) (λ e. let r = alone t h in omega arith)
 
-      pub try-first : (t : Tet) → get_or s.slots i none ≡ some t → get_or s.slots j none ≡ none → length (without (corners_of f) (vertices_of t)) ≡ 1 → try_face μ ts s f ≡ s
+      pub try-first : (t : Tet) → get_or s.slots i maths.none ≡ maths.some t → get_or s.slots j maths.none ≡ maths.none → length (without (corners_of f) (vertices_of t)) ≡ 1 → try_face μ ts s f ≡ s
       unfolding live
-      try-first t ea eb h = try-is (some t) none ea eb ∙ idle (besides (corners_of f) (t ∷ [])) (λ e. let r = alone t h in omega arith)
+      try-first t ea eb h = try-is (maths.some t) maths.none ea eb ∙ idle (besides (corners_of f) (t ∷ [])) (λ e. let r = alone t h in omega arith)
 
       -- both: a two-to-three with their apexes
-      pub try-both : (t u : Tet) → get_or s.slots i none ≡ some t → get_or s.slots j none ≡ some u
+      pub try-both : (t u : Tet) → get_or s.slots i maths.none ≡ maths.some t → get_or s.slots j maths.none ≡ maths.some u
           → length (without (corners_of f) (vertices_of t)) ≡ 1 → length (without (corners_of f) (vertices_of u)) ≡ 1
           → (a b : ℕ) → a ≡ get_or (without (corners_of f) (vertices_of t)) 0 t.d → b ≡ get_or (without (corners_of f) (vertices_of u)) 0 u.d
           → try_face μ ts s f ≡ two_to_three μ s f (i ∷ j ∷ []) a b
@@ -166,4 +190,4 @@ module _ (nv : ℕ) (ts : List Tet) (f : Triple) (i j : ℕ) (fl : FaceListed nv
       try-both t u ea eb ht hu a b ha hb =
           let p : without (corners_of f) (vertices_of t) ≡ a ∷ [] = one-is (without (corners_of f) (vertices_of t)) t.d ht ∙ ap (λ (c : ℕ). c ∷ []) (sym ha) in
           let q : without (corners_of f) (vertices_of u) ≡ b ∷ [] = one-is (without (corners_of f) (vertices_of u)) u.d hu ∙ ap (λ (c : ℕ). c ∷ []) (sym hb) in
-          try-is (some t) (some u) ea eb ∙ ap₂ (λ (x y : List ℕ). turn (x ++ (y ++ []))) p q
+          try-is (maths.some t) (maths.some u) ea eb ∙ ap₂ (λ (x y : List ℕ). turn (x ++ (y ++ []))) p q

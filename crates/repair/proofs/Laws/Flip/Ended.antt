@@ -12,8 +12,8 @@ use lib.ListN.{length, take, drop, take-append-drop}
 use lib.Seq.{take_at, drop_at, take-take, length-take-le}
 use Rattle.mesh.specs.declared.element.Tet.{Tet}
 use Rattle.mesh.specs.declared.element.Triple.{Triple}
-use Rattle.mesh.specs.declared.boundary.Outcome.{Outcome}
-use Rattle.mesh.specs.declared.boundary.Outcome.TheVariants.{Surface, Refused}
+use Rattle.mesh.specs.Surface.{Outcome}
+use Rattle.mesh.specs.Surface.{Surface, Refused}
 use Rattle.mesh.specs.Words.{zero_words}
 use Rattle.mesh.specs.Element.{tets, triples, all_corners}
 use Rattle.mesh.specs.Boundary.{boundary_number, boundary_of}

@@ -20,20 +20,15 @@ use Rattle.mesh.specs.inside.List.{gone}
 use Rattle.mesh.specs.Measure.{Measure}
 use Rattle.mesh.proofs.Laws.Bools.{and_intro}
 use Rattle.mesh.proofs.Laws.Complex.Sets.{split, clash, or_left, or_right, out-head, out-tail}
-use Rattle.repair.specs.declared.flip.orient.Trio.{Trio}
 use Rattle.repair.specs.declared.flip.counts.Tried.{Tried}
-use Rattle.repair.specs.declared.flip.counts.Places.{Places}
 use Rattle.repair.specs.Flip.{State, slot_has, emptied, elements_at, oriented, accepted, replace, try_face}
 use Rattle.repair.specs.inside.Layout.{slot_ok}
 use Rattle.repair.specs.inside.improve.Collapse.{slot_at}
-use Rattle.repair.specs.inside.flip.Trio.{elements_of}
 use Rattle.repair.specs.inside.flip.Layout.{SlotsStand, Kept, FacesBound, slot_of}
-use Rattle.repair.specs.inside.flip.Tries.{Holds, Went, Old, Start, FaceListed, places_of}
+use Rattle.repair.specs.inside.flip.Tries.{Holds, Went, Old, Start, FaceListed}
 use Rattle.repair.proofs.Laws.Flip.Slots.{none-some, Aged, aged-emptied, aged-append}
 use Rattle.repair.proofs.Laws.Flip.Bound.{faces-room, faces-turn}
 use Rattle.repair.proofs.Laws.Flip.Layout.{slots-many, slot-none, slot-some, kept_refl}
-use Rattle.repair.proofs.Laws.Flip.Trio.{elements-two}
-use Rattle.repair.proofs.Laws.Flip.Replaced.{places-two}
 use Rattle.repair.proofs.Laws.Flip.Numbered.{four-numbered}
 use Rattle.repair.proofs.Laws.Flip.Held.{slot_read, slot-well}
 use Rattle.repair.proofs.Laws.Flip.Apex.{owners-two, one-apex, apex-out, try-none, try-first, try-second, try-both}
@@ -224,29 +219,18 @@ module _ (μ : Measure) (x : Index) (n : ℕ) (t : Tried) (w : List ℕ) (ts : L
             go true = let o = rise in let k = o.0 in let l = o.1 in faces-turn n s.slots bound i j (λ e. omega arith) (omega arith) l p q (slot-i here-p) (slot-j here-q) (map (oriented μ) cs) refl
             go false = bound
 
-        -- the slots and the elements that are replaced
-        abbrev at : Places
-        at = record { a = i; b = j; c = j }
-
-        abbrev old : Trio
-        old = record { count = 2; a = p; b = q; c = q }
-
-        two : places_of 2 at ≡ i ∷ j ∷ []
-        two = places-two 2 at (λ e. omega arith)
-
-        old-is : Old at old s
-        old-is =
-            ap (map (λ k. get_or s.slots k none)) two ∙ ap₂ (λ (u v : Option Tet). u ∷ v ∷ []) (slot-i here-p) (slot-j here-q)
-            ∙ sym (ap (map some) (elements-two old (λ e. omega arith)))
+        -- the elements that are replaced
+        old-is : Old (i ∷ j ∷ []) (p ∷ q ∷ []) s
+        old-is = ap₂ (λ (u v : Option Tet). u ∷ v ∷ []) (slot-i here-p) (slot-j here-q)
 
         -- the replacement
-        pub face-made : (new : Trio) → elements_of new ≡ cs → (u : Tried) (v : List ℕ)
-            → ((n : ℕ) (s : State) → Holds x n t w s → Old at old s → every (well_numbered nv) (elements_of new) ≡ true → t.slots + length (elements_of new) ≤ x.room
-            → Holds x n u v (replace μ s (places_of 2 at) (elements_of new)) × Kept x w v)
+        pub face-made : (new : List Tet) → new ≡ cs → (u : Tried) (v : List ℕ)
+            → ((n : ℕ) (s : State) → Holds x n t w s → Old (i ∷ j ∷ []) (p ∷ q ∷ []) s → every (well_numbered nv) new ≡ true → t.slots + length new ≤ x.room
+            → Holds x n u v (replace μ s (i ∷ j ∷ []) new) × Kept x w v)
             → Left u v (try_face μ ts s f)
         face-made new e u v made =
             let k = ap length e in
             let d = made n s z old-is (ap (every (well_numbered nv)) e ∙ numbered) (let m = room-left in omega arith) in
-            let g : Holds x n u v (replace μ s (i ∷ j ∷ []) cs) = subst (λ (l : List ℕ). Holds x n u v (replace μ s l cs)) two (subst (λ (l : List Tet). Holds x n u v (replace μ s (places_of 2 at) l)) e d.0) in
+            let g : Holds x n u v (replace μ s (i ∷ j ∷ []) cs) = subst (λ (l : List Tet). Holds x n u v (replace μ s (i ∷ j ∷ []) l)) e d.0 in
             subst (λ (y : State). Left u v y) (sym (turn_is false free))
             (record { holds = g; kept = d.1; room = bound-after }, replaced-start μ ts s (i ∷ j ∷ []) cs st (let b = bound.many in omega arith))

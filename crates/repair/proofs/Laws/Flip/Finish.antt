@@ -10,13 +10,13 @@ use lib.Dec.{eqb}
 use lib.ListN.{length, take, drop}
 use Rattle.mesh.specs.declared.element.Tet.{Tet}
 use Rattle.mesh.specs.declared.element.Triple.{Triple}
-use Rattle.mesh.specs.declared.boundary.Outcome.{Outcome}
-use Rattle.mesh.specs.declared.boundary.Outcome.TheVariants.{Surface, Refused}
+use Rattle.mesh.specs.Surface.{Outcome}
+use Rattle.mesh.specs.Surface.{Surface, Refused}
 use Rattle.mesh.specs.Element.{tets, triples, all_corners, all_vertices}
 use Rattle.mesh.specs.Boundary.{boundary_number, boundary_of}
 use Rattle.mesh.proofs.Laws.Complex.Sets.{split}
-use Rattle.repair.specs.declared.answer.Answer.{Answer}
-use Rattle.repair.specs.declared.answer.Answer.TheVariants as answers
+use Rattle.repair.specs.Step.{Answer}
+use Rattle.repair.specs.Step as answers
 use Rattle.repair.specs.Flip.{sorted_keys, same_triples, end_number}
 use Rattle.repair.specs.Step.{over}
 use Rattle.repair.specs.inside.flip.Finish.{SurfaceEnded, EndRoom, flip_end}

@@ -8,15 +8,16 @@ use native.Mathlib.Nat.{add-zero, not-suc-le-zero}
 use native.Mathlib.Omega.{arith}
 use borrow.Author.Tests.{le-leb}
 use borrow.Rule.Slice.PartMut.{mid_of, put_mid, mid_len}
-use lib.Dec.{leb}
-use lib.ListN.{length, take, drop, set, replicate, length-set}
+use lib.Dec.{eqb, leb}
+use lib.ListN.{length, take, drop, set, replicate, length-set, length-drop}
 use lib.Seq.{length-take-le, get_or-take, get_or-drop, drop-drop, drop_at, get_or-set_same, get_or-set_other}
+use Rattle.std.specs.Cmp.Lexicographic.{pointwise}
 use Rattle.mesh.specs.declared.element.Triple.{Triple}
 use Rattle.mesh.specs.Words.{word_at, flat}
 use Rattle.mesh.specs.Sort.{sort}
 use Rattle.mesh.specs.inside.Rows.{rows, le_row, fit_rows, sorted_area}
 use Rattle.mesh.specs.Element.{key_of, corners_of, triples}
-use Rattle.mesh.specs.Boundary.{same_triple, le_triple}
+use Rattle.mesh.specs.Boundary.{le_triple}
 use Rattle.mesh.proofs.Laws.Parts.{side}
 use Rattle.mesh.proofs.Laws.Areas.{length-sorted}
 use Rattle.mesh.proofs.Laws.Boundary.Order.{sort-corners}
@@ -25,7 +26,7 @@ use Rattle.mesh.proofs.Laws.Manifold.Whole.{triples-flat, triples-take}
 use Rattle.repair.specs.Flip.{same_triples}
 use Rattle.repair.specs.inside.Layout.{Same}
 use Rattle.repair.specs.inside.flip.Layout.{triple_at, with_triple}
-use Rattle.repair.proofs.Laws.Same.{same_refl, same-trans, same-wider, same-put}
+use Rattle.repair.proofs.Laws.Same.{same-trans, same-wider, same-put}
 
 -- ---- triples read
 
@@ -99,13 +100,7 @@ pub record Keying (i d c : ℕ) (w₀ w : List ℕ) (j : ℕ) : Type 0 where
   pub same : Same w₀ w d (d + 3 * c)
   pub keys : (q : ℕ) → q < j → triple_at w (d + 3 * q) ≡ key_of (triple_at w₀ (i + 3 * q))
 
-pub keying-start : (i d c : ℕ) (w : List ℕ) → Keying i d c w w 0
-keying-start i d c w = record { done = omega arith; same = same_refl w d (d + 3 * c); keys = λ q h. absurd (omega arith) }
-
 module _ {i d c : ℕ} {w₀ w : List ℕ} {j : ℕ} (apart : i + 3 * c ≤ d) (fits : d + 3 * c ≤ length w₀) (k : Keying i d c w₀ w j) where
-  pub keying-room : j < c → (i + 3 * j + 3 ≤ length w) × (d + 3 * j + 3 ≤ length w)
-  keying-room h = let e = k.same.long in (omega arith, omega arith)
-
   pub keying-turn : j < c → (w' : List ℕ) → w' ≡ with_triple (key_of (triple_at w (i + 3 * j))) (d + 3 * j) w → Keying i d c w₀ w' (j + 1)
   keying-turn h w' e = subst (λ (u : List ℕ). Keying i d c w₀ u (j + 1)) (sym e) (record {
     done = omega arith;
@@ -136,31 +131,32 @@ module _ {i d c : ℕ} {w₀ w : List ℕ} {j : ℕ} (apart : i + 3 * c ≤ d) (
 
 -- ---- compared
 
--- with those left from i and j on the answer is that of all
-pub record Comparing (w : List ℕ) (p q c i j left : ℕ) : Type 0 where
-  pub first : i + 3 * left ≤ length w
-  pub second : j + 3 * left ≤ length w
-  pub is : same_triples (triples left (drop i w)) (triples left (drop j w)) ≡ same_triples (triples c (drop p w)) (triples c (drop q w))
+-- triples are the same where their words are
+words-same : (c : ℕ) (s t : List ℕ) → 3 * c ≤ length s → 3 * c ≤ length t → pointwise eqb (take (3 * c) s) (take (3 * c) t) ≡ same_triples (triples c s) (triples c t)
+unfolding same_triples triples
+words-same zero s t h g = refl
+words-same (suc c) [] t h g = absurd (omega arith)
+words-same (suc c) (a ∷ []) t h g = absurd (omega arith)
+words-same (suc c) (a ∷ b ∷ []) t h g = absurd (omega arith)
+words-same (suc c) (a ∷ b ∷ d ∷ s) [] h g = absurd (omega arith)
+words-same (suc c) (a ∷ b ∷ d ∷ s) (x ∷ []) h g = absurd (omega arith)
+words-same (suc c) (a ∷ b ∷ d ∷ s) (x ∷ y ∷ []) h g = absurd (omega arith)
+words-same (suc c) (a ∷ b ∷ d ∷ s) (x ∷ y ∷ z ∷ t) h g =
+    let e : 3 * suc c ≡ suc (suc (suc (3 * c))) = omega arith in
+    rw (e, words-same c s t (omega arith) (omega arith)) (regroup (eqb a x) (eqb b y) (eqb d z) (same_triples (triples c s) (triples c t)))
+  where
+    regroup : (p q r u : Bool) → (p && (q && (r && u))) ≡ ((p && (q && r)) && u)
+    regroup true true r u = refl
+    regroup true false r u = refl
+    regroup false q r u = refl
 
-module _ {w : List ℕ} {p q c i j left : ℕ} (k : Comparing w p q c i j left) where
-  module _ (h : 0 < left) (f g : Triple) (ef : f ≡ triple_at w i) (eg : g ≡ triple_at w j) (b : Bool) (eb : b ≡ same_triple f g) where
-    next : (b && same_triples (triples (left - 1) (drop (i + 3) w)) (triples (left - 1) (drop (j + 3) w))) ≡ same_triples (triples c (drop p w)) (triples c (drop q w))
-    unfolding same_triples
-    next = rw (eb, ef, eg) (sym (ap₂ same_triples (triples-next left i w h) (triples-next left j w h)) ∙ k.is)
-
-    pub compare-differ : b ≡ false → false ≡ same_triples (triples c (drop p w)) (triples c (drop q w))
-    compare-differ e = sym (ap (λ (y : Bool). y && same_triples (triples (left - 1) (drop (i + 3) w)) (triples (left - 1) (drop (j + 3) w))) e) ∙ next
-
-    pub compare-turn : b ≡ true → Comparing w p q c (i + 3) (j + 3) (left - 1)
-    compare-turn e = record {
-      first = let a = k.first in omega arith;
-      second = let a = k.second in omega arith;
-      is = sym (ap (λ (y : Bool). y && same_triples (triples (left - 1) (drop (i + 3) w)) (triples (left - 1) (drop (j + 3) w))) e) ∙ next;
-    }
-
-  pub compare-end : left ≤ 0 → true ≡ same_triples (triples c (drop p w)) (triples c (drop q w))
-  unfolding same_triples
-  compare-end h = sym (ap₂ same_triples (triples_none left i w h) (triples_none left j w h)) ∙ k.is
+-- so are those in two ranges of the area
+pub ranges-same : (w : List ℕ) (p q c : ℕ) → p + 3 * c ≤ length w → q + 3 * c ≤ length w
+    → pointwise eqb (take (p + 3 * c - p) (drop p w)) (take (q + 3 * c - q) (drop q w)) ≡ same_triples (triples c (drop p w)) (triples c (drop q w))
+ranges-same w p q c h g =
+    let a : p + 3 * c - p ≡ 3 * c = omega arith in
+    let b : q + 3 * c - q ≡ 3 * c = omega arith in
+    rw (a, b) (words-same c (drop p w) (drop q w) (omega (arith, length-drop p w)) (omega (arith, length-drop q w)))
 
 -- ---- put in order
 

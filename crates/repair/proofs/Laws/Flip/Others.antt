@@ -3,14 +3,14 @@
 use mathlib.Core.Path.{◌≡◌, refl, sym, ap, ap₂, subst, ◌∙◌}
 use mathlib.Core.Logic.{inl, inr}
 use mathlib.Core.Bool.{Bool, true, false, not, cond}
-use mathlib.Core.List.{List, [], ◌∷◌, ◌++◌, append_assoc, append-nil, Memᴰ}
-use Prim.Native.Nat.{ℕ, ◌+◌, ◌-◌, ◌≤◌, ◌<◌}
+use mathlib.Core.List.{List, [], ◌∷◌, ◌++◌, Memᴰ}
+use Prim.Native.Nat.{ℕ, suc, ◌+◌, ◌-◌, ◌*◌, ◌≤◌, ◌<◌}
 use native.Mathlib.Nat.{add-zero}
 use native.Mathlib.Omega.{arith}
 use borrow.Author.Tests.{eq-eqb, ne_eqb}
 use borrow.Rule.Slice.PartMut.{mid_of, post_of, put_mid}
-use lib.ListN.{length, get_or, take, drop, set, length-append}
-use lib.Seq.{get_or-take, get_or-drop, length-take-le, take_all, take_at, drop_at, take-append-le}
+use lib.ListN.{length, get_or, take, drop, set, length-append, drop_of_length-le}
+use lib.Seq.{get_or-take, get_or-drop, length-take-le, take_all, take_at, drop_at, drop-cons, take-append-le}
 use Rattle.mesh.specs.declared.element.Pair.{Pair}
 use Rattle.mesh.specs.declared.element.Triple.{Triple}
 use Rattle.mesh.specs.declared.element.Tet.{Tet}
@@ -50,6 +50,20 @@ puts-more {s} {t} {u} {k} {n} {p} {l} {m} h a b = record {
 puts-long : {s t : List ℕ} {k n : ℕ} {l : List ℕ} → n ≤ length s → Puts s k l n t → length t ≡ length s
 puts-long {s} {t} {k} {n} {l} h a = ap length a.words ∙ length-written s k l (let x = a.place in omega arith)
 
+-- once a part is put, up to n: what puts those that are left puts all
+pub record Putting (s : List ℕ) (k : ℕ) (all w : List ℕ) (n : ℕ) (left : List ℕ) : Type 0 where
+  pub long : length w ≡ length s
+  pub rest : (p : ℕ) (u : List ℕ) → Puts w n left p u → Puts s k all p u
+
+putting-start : (s : List ℕ) (k : ℕ) (all : List ℕ) → Putting s k all s k all
+putting-start s k all = record { long = refl; rest = λ p u h. h }
+
+putting-turn : {s : List ℕ} {k : ℕ} {all w : List ℕ} {n : ℕ} {l m v : List ℕ} {p : ℕ} → Putting s k all w n (l ++ m) → p ≤ length w → Puts w n l p v → Putting s k all v p m
+putting-turn {l = l} {m = m} q h a = record { long = puts-long h a ∙ q.long; rest = λ p u b. q.rest p u (puts-more {l = l} {m = m} h a b) }
+
+putting-end : {s : List ℕ} {k : ℕ} {all w : List ℕ} {n : ℕ} {left : List ℕ} → Putting s k all w n left → left ≡ [] → Puts s k all n w
+putting-end {w = w} {n = n} {left = left} q h = q.rest n w (puts_none w n left h)
+
 -- ---- the vertices besides an edge's
 
 module _ (e : Pair) where
@@ -71,50 +85,55 @@ module _ (e : Pair) where
       go true = refl
       go false = refl
 
-  -- the four vertices of an element
-  pub four-put : {s s₁ s₂ s₃ s₄ : List ℕ} {k k₁ k₂ k₃ k₄ : ℕ} (t : Tet) → k + 4 ≤ length s
-      → Puts s k (without (edge_row e) (t.a ∷ [])) k₁ s₁ × (k₁ ≤ k + 1) → Puts s₁ k₁ (without (edge_row e) (t.b ∷ [])) k₂ s₂ × (k₂ ≤ k₁ + 1)
-      → Puts s₂ k₂ (without (edge_row e) (t.c ∷ [])) k₃ s₃ × (k₃ ≤ k₂ + 1) → Puts s₃ k₃ (without (edge_row e) (t.d ∷ [])) k₄ s₄ × (k₄ ≤ k₃ + 1)
-      → Puts s k (without (edge_row e) (vertices_of t)) k₄ s₄ × (k₄ ≤ k + 4)
-  four-put {s} {s₁} {s₂} {s₃} {s₄} {k} {k₁} {k₂} {k₃} {k₄} t h a b c d =
-      let la = without (edge_row e) (t.a ∷ []) in
-      let lb = without (edge_row e) (t.b ∷ []) in
-      let lc = without (edge_row e) (t.c ∷ []) in
-      let ld = without (edge_row e) (t.d ∷ []) in
-      let a₁ = a.1 in let b₁ = b.1 in let c₁ = c.1 in let d₁ = d.1 in
-      let ab : Puts s k (la ++ lb) k₂ s₂ = puts-more {l = la} {m = lb} (omega arith) a.0 b.0 in
-      let abc : Puts s k ((la ++ lb) ++ lc) k₃ s₃ = puts-more {l = la ++ lb} {m = lc} (omega arith) ab c.0 in
-      let abcd : Puts s k (((la ++ lb) ++ lc) ++ ld) k₄ s₄ = puts-more {l = (la ++ lb) ++ lc} {m = ld} (omega arith) abc d.0 in
-      let all : ((la ++ lb) ++ lc) ++ ld ≡ without (edge_row e) (vertices_of t) =
-      append_assoc (la ++ lb) lc ld
-      ∙ append_assoc la lb (lc ++ ld)
-      ∙ sym (without-cons t.a (t.b ∷ t.c ∷ t.d ∷ []) ∙ ap (λ (z : List ℕ). la ++ z) (without-cons t.b (t.c ∷ t.d ∷ []) ∙ ap (λ (z : List ℕ). lb ++ z) (without-cons t.c (t.d ∷ [])))) in
-      (subst (λ (l : List ℕ). Puts s k l k₄ s₄) all abcd, omega arith)
+  -- once i of the vertices vs are put
+  pub record PuttingVertices (s : List ℕ) (k : ℕ) (vs w : List ℕ) (n i : ℕ) : Type 0 where
+    pub few : n ≤ k + i
+    pub put : Putting s k (without (edge_row e) vs) w n (without (edge_row e) (drop i vs))
 
-  -- the three elements
-  three-put : {s s₁ s₂ s₃ : List ℕ} {n₁ n₂ n : ℕ} (a b c : Tet) → 24 ≤ length s
-      → Puts s 0 (without (edge_row e) (vertices_of a)) n₁ s₁ × (n₁ ≤ 0 + 4) → Puts s₁ n₁ (without (edge_row e) (vertices_of b)) n₂ s₂ × (n₂ ≤ n₁ + 4)
-      → Puts s₂ n₂ (without (edge_row e) (vertices_of c)) n s₃ × (n ≤ n₂ + 4) → Puts s 0 (besides (edge_row e) (a ∷ b ∷ c ∷ [])) n s₃
-  unfolding besides
-  three-put {s} {s₁} {s₂} {s₃} {n₁} {n₂} {n} a b c h p q r =
-      let la = without (edge_row e) (vertices_of a) in
-      let lb = without (edge_row e) (vertices_of b) in
-      let lc = without (edge_row e) (vertices_of c) in
-      let p₁ = p.1 in let q₁ = q.1 in let r₁ = r.1 in
-      let ab : Puts s 0 (la ++ lb) n₂ s₂ = puts-more {l = la} {m = lb} (omega arith) p.0 q.0 in
-      let abc : Puts s 0 ((la ++ lb) ++ lc) n s₃ = puts-more {l = la ++ lb} {m = lc} (omega arith) ab r.0 in
-      subst (λ (l : List ℕ). Puts s 0 l n s₃) (append_assoc la lb lc ∙ ap (λ (z : List ℕ). la ++ (lb ++ z)) (sym (append-nil lc))) abc
+  module _ {s : List ℕ} {k : ℕ} {vs w : List ℕ} {n i : ℕ} (room : k + length vs ≤ length s) (q : PuttingVertices s k vs w n i) where
+    pub vertices-turn : i < length vs → (p : ℕ) (v : List ℕ) → Puts w n (without (edge_row e) (get_or vs i 0 ∷ [])) p v → p ≤ n + 1 → PuttingVertices s k vs v p (i + 1)
+    vertices-turn h p v a b =
+        let j : suc i ≡ i + 1 = omega arith in
+        let here : without (edge_row e) (drop i vs) ≡ without (edge_row e) (get_or vs i 0 ∷ []) ++ without (edge_row e) (drop (i + 1) vs) =
+        ap (without (edge_row e)) (drop-cons vs i 0 h) ∙ without-cons (get_or vs i 0) (drop (suc i) vs)
+        ∙ ap (λ (m : ℕ). without (edge_row e) (get_or vs i 0 ∷ []) ++ without (edge_row e) (drop m vs)) j in
+        record {
+          few = let y = q.few in omega arith;
+          put = putting-turn {l = without (edge_row e) (get_or vs i 0 ∷ [])} (subst (λ (l : List ℕ). Putting s k (without (edge_row e) vs) w n l) here q.put) (let y = q.few in let z = q.put.long in omega arith) a;
+        }
+
+    pub vertices-end : length vs ≤ i → i ≤ length vs → Puts s k (without (edge_row e) vs) n w × (n ≤ k + length vs)
+    vertices-end h g = (putting-end q.put (ap (without (edge_row e)) (drop_of_length-le vs h)), (let a = q.few in omega arith))
+
+  -- once those of i of the elements ts are put
+  pub record PuttingElements (s : List ℕ) (ts : List Tet) (w : List ℕ) (n i : ℕ) : Type 0 where
+    pub few : n ≤ 4 * i
+    pub put : Putting s 0 (besides (edge_row e) ts) w n (besides (edge_row e) (drop i ts))
+
+  module _ {s : List ℕ} {ts : List Tet} {w : List ℕ} {n i : ℕ} (room : 4 * length ts ≤ length s) (q : PuttingElements s ts w n i) where
+    pub elements-turn : (d : Tet) → i < length ts → (p : ℕ) (v : List ℕ) → Puts w n (without (edge_row e) (vertices_of (get_or ts i d))) p v → p ≤ n + 4 → PuttingElements s ts v p (i + 1)
+    unfolding besides
+    elements-turn d h p v a b =
+        let j : suc i ≡ i + 1 = omega arith in
+        let l = without (edge_row e) (vertices_of (get_or ts i d)) in
+        let here : besides (edge_row e) (drop i ts) ≡ l ++ besides (edge_row e) (drop (i + 1) ts) =
+        ap (besides (edge_row e)) (drop-cons ts i d h) ∙ ap (λ (m : ℕ). l ++ besides (edge_row e) (drop m ts)) j in
+        record {
+          few = let y = q.few in omega arith;
+          put = putting-turn {l = l} (subst (λ (l : List ℕ). Putting s 0 (besides (edge_row e) ts) w n l) here q.put) (let y = q.few in let z = q.put.long in omega arith) a;
+        }
+
+    pub elements-end : length ts ≤ i → Puts s 0 (besides (edge_row e) ts) n w
+    unfolding besides
+    elements-end h = putting-end q.put (ap (besides (edge_row e)) (drop_of_length-le ts h))
 
   -- in order, each once
-  pub others-listed : {s s₁ s₂ s₃ s₄ s₅ : List ℕ} {n₁ n₂ n r : ℕ} (a b c : Tet) → 24 ≤ length s
-      → Puts s 0 (without (edge_row e) (vertices_of a)) n₁ s₁ × (n₁ ≤ 0 + 4) → Puts s₁ n₁ (without (edge_row e) (vertices_of b)) n₂ s₂ × (n₂ ≤ n₁ + 4)
-      → Puts s₂ n₂ (without (edge_row e) (vertices_of c)) n s₃ × (n ≤ n₂ + 4) → s₄ ≡ sorted_area n 1 s₃ → r ≡ length (unique_rows n 1 s₄) → s₅ ≡ unique_area n 1 s₄
-      → (r ≡ length (others_of e (a ∷ b ∷ c ∷ []))) × (take r s₅ ≡ others_of e (a ∷ b ∷ c ∷ []))
+  pub others-listed : {s s₃ s₄ s₅ : List ℕ} {n r : ℕ} (ts : List Tet) → length ts ≤ 3 → 24 ≤ length s → n ≤ 4 * length ts → Puts s 0 (besides (edge_row e) ts) n s₃
+      → s₄ ≡ sorted_area n 1 s₃ → r ≡ length (unique_rows n 1 s₄) → s₅ ≡ unique_area n 1 s₄
+      → (r ≡ length (others_of e ts)) × (take r s₅ ≡ others_of e ts)
   unfolding others_of distinct
-  others-listed {s} {s₁} {s₂} {s₃} {s₄} {s₅} {n₁} {n₂} {n} {r} a b c h p q y e₄ er e₅ =
-      let all = besides (edge_row e) (a ∷ b ∷ c ∷ []) in
-      let put = three-put a b c h p q y in
-      let p₁ = p.1 in let q₁ = q.1 in let y₁ = y.1 in
+  others-listed {s} {s₃} {s₄} {s₅} {n} {r} ts three h f put e₄ er e₅ =
+      let all = besides (edge_row e) ts in
       let long : length s₃ ≡ length s = puts-long (omega arith) put in
       let room : n + n ≤ length s₃ = omega arith in
       let place = put.place in

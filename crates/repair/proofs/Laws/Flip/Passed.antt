@@ -16,8 +16,8 @@ use Rattle.mesh.specs.Boundary.{boundary_of}
 use Rattle.mesh.specs.Intake.{intake}
 use Rattle.mesh.proofs.Laws.Complex.Sets.{split}
 use Rattle.mesh.proofs.Laws.Intake.Reads.{length-points}
-use Rattle.repair.specs.declared.answer.Answer.{Answer}
-use Rattle.repair.specs.declared.answer.Answer.TheVariants.{Done}
+use Rattle.repair.specs.Step.{Answer}
+use Rattle.repair.specs.Step.{Done}
 use Rattle.repair.specs.Mesh.{Mesh, made, refused}
 use Rattle.repair.specs.Flip as def
 use Rattle.repair.specs.Step.{State, Call, Pass, sizes_after, mesh_of, lengths_of, floats_of, over, committed, result_of, finish}

@@ -5,10 +5,10 @@ use mathlib.Core.List.{List, [], ◌∷◌, ◌++◌, map, append-nil}
 use mathlib.Core.Option.{Option, none, some}
 use Prim.Native.Nat.{ℕ, zero, suc, ◌+◌, ◌≤◌, ◌<◌}
 use native.Mathlib.Omega.{arith}
-use borrow.Author.Tests.{eq-eqb, ne_eqb, lt-ltb, ltb-true}
+use borrow.Author.Tests.{lt-ltb, ltb-true}
 use lib.Dec.{ltb}
-use lib.ListN.{length, get_or, set}
-use lib.Seq.{append_snoc}
+use lib.ListN.{length, get_or, set, drop, drop_of_length-le}
+use lib.Seq.{append_snoc, drop-cons}
 use Rattle.mesh.specs.declared.element.Tet.{Tet}
 use Rattle.mesh.specs.declared.star.Index.{Index}
 use Rattle.mesh.specs.Tests.{every, under}
@@ -16,29 +16,16 @@ use Rattle.mesh.specs.Intake.{well_numbered}
 use Rattle.mesh.specs.Measure.{Measure}
 use Rattle.mesh.proofs.Laws.Complex.Sets.{and-fst, and-snd}
 use Rattle.mesh.proofs.Laws.Boundary.Same.{length-map}
-use Rattle.repair.specs.declared.flip.orient.Trio.{Trio}
 use Rattle.repair.specs.declared.flip.counts.Tried.{Tried}
-use Rattle.repair.specs.declared.flip.counts.Places.{Places}
 use Rattle.repair.specs.Flip.{State, live, emptied, elements_at, oriented, accepted, replace}
-use Rattle.repair.specs.inside.flip.Trio.{elements_of}
 use Rattle.repair.specs.inside.flip.Layout.{SlotsStand, Kept}
-use Rattle.repair.specs.inside.flip.Tries.{Holds, Counted, Counts, Old, places_of}
+use Rattle.repair.specs.inside.flip.Tries.{Holds, Counted, Counts, Old}
 use Rattle.repair.specs.inside.flip.Replace.{Empties, Adds}
 use Rattle.repair.proofs.Laws.Flip.Slots.{none-some, live-some}
 use Rattle.repair.proofs.Laws.Flip.Numbered.{oriented-numbered}
-use Rattle.repair.proofs.Laws.Flip.Trio.{elements-two, elements-three}
 use Rattle.repair.proofs.Laws.Flip.Layout.{kept_refl, kept_trans, slots-many}
 
 -- ---- slots one by one
-
--- the numbers of three slots, and of two
-places-three : (k : ℕ) (p : Places) → k ≡ 3 → places_of k p ≡ p.a ∷ p.b ∷ p.c ∷ []
-unfolding places_of
-places-three k p h = rw (eq-eqb k 3 h) refl
-
-pub places-two : (k : ℕ) (p : Places) → (k ≡ 3 → ⊥) → places_of k p ≡ p.a ∷ p.b ∷ []
-unfolding places_of
-places-two k p h = rw (ne_eqb k 3 h) refl
 
 -- where w stands for a state, u stands for the state with the slot e emptied
 abbrev EmptiesOne : Index → ℕ → List ℕ → List ℕ → Type 0
@@ -56,13 +43,22 @@ empties-more e is first rest n c s h z =
     let b = rest n c (record { slots = set s.slots e none; flips = s.flips }) (and-snd (ltb e c) (under c is) h) a.0 in
     (b.0, kept_trans a.1 b.1)
 
--- two slots emptied, and three
-pub empties-two : (x : Index) (k : ℕ) (p : Places) (w u v : List ℕ) → (k ≡ 3 → ⊥) → EmptiesOne x p.a w u → EmptiesOne x p.b u v → Empties x (places_of k p) w v
-empties-two x k p w u v h a b = subst (λ (l : List ℕ). Empties x l w v) (sym (places-two k p h)) (empties-more p.a (p.b ∷ []) a (empties-more p.b [] b empties-none))
+-- once i of the slots are emptied: what empties those that are left makes all empty
+pub record Emptying (x : Index) (is : List ℕ) (w u : List ℕ) (i : ℕ) : Type 0 where
+  pub long : length u ≡ length w
+  pub rest : (v : List ℕ) → Empties x (drop i is) u v → Empties x is w v
 
-pub empties-three : (x : Index) (k : ℕ) (p : Places) (w u v y : List ℕ) → k ≡ 3 → EmptiesOne x p.a w u → EmptiesOne x p.b u v → EmptiesOne x p.c v y → Empties x (places_of k p) w y
-empties-three x k p w u v y h a b c =
-    subst (λ (l : List ℕ). Empties x l w y) (sym (places-three k p h)) (empties-more p.a (p.b ∷ p.c ∷ []) a (empties-more p.b (p.c ∷ []) b (empties-more p.c [] c empties-none)))
+module _ {x : Index} {is w u : List ℕ} {i : ℕ} (k : Emptying x is w u i) where
+  pub emptying-turn : i < length is → (v : List ℕ) → length v ≡ length u → EmptiesOne x (get_or is i 0) u v → Emptying x is w v (i + 1)
+  emptying-turn h v l one = record {
+    long = l ∙ k.long;
+    rest = λ y more.
+        let e : i + 1 ≡ suc i = omega arith in
+        k.rest y (subst (λ (js : List ℕ). Empties x js u y) (sym (drop-cons is i 0 h)) (empties-more (get_or is i 0) (drop (suc i) is) one (subst (λ (j : ℕ). Empties x (drop j is) v y) e more)));
+  }
+
+  pub emptying-end : length is ≤ i → Empties x is w u
+  emptying-end h = k.rest u (subst (λ (js : List ℕ). Empties x js u u) (sym (drop_of_length-le is h)) empties-none)
 
 -- where w stands for a state with c slots, u stands for the state with t in a slot behind them
 abbrev AddsOne : Index → ℕ → Tet → List ℕ → List ℕ → Type 0
@@ -88,32 +84,33 @@ adds-more {x} c d t ts {w} {u} {v} e first rest n s h ok z =
       kept_trans a.1 b.1,
     )
 
--- two slots added, and three
-pub adds-two : (x : Index) (c : ℕ) (new : Trio) (w u v : List ℕ) → (new.count ≡ 3 → ⊥) → AddsOne x c new.a w u → AddsOne x (c + 1) new.b u v → Adds x c (elements_of new) w v
-adds-two x c new w u v h a b =
-    subst (λ (l : List Tet). Adds x c l w v) (sym (elements-two new h))
-    (adds-more c (c + 1) new.a (new.b ∷ []) refl a (adds-more (c + 1) (c + 2) new.b [] (omega arith) b (adds_none {c = c + 2})))
+-- once i of the elements are added: what adds those that are left adds all
+pub record Adding (x : Index) (c : ℕ) (ts : List Tet) (w u : List ℕ) (i : ℕ) : Type 0 where
+  pub long : length u ≡ length w
+  pub rest : (v : List ℕ) → Adds x (c + i) (drop i ts) u v → Adds x c ts w v
 
-pub adds-three : (x : Index) (c : ℕ) (new : Trio) (w u v y : List ℕ) → new.count ≡ 3 → AddsOne x c new.a w u → AddsOne x (c + 1) new.b u v → AddsOne x (c + 2) new.c v y
-    → Adds x c (elements_of new) w y
-adds-three x c new w u v y h a b d =
-    subst (λ (l : List Tet). Adds x c l w y) (sym (elements-three new h))
-    (adds-more c (c + 1) new.a (new.b ∷ new.c ∷ []) refl a
-    (adds-more (c + 1) (c + 2) new.b (new.c ∷ []) (omega arith) b (adds-more (c + 2) (c + 3) new.c [] (omega arith) d (adds_none {c = c + 3}))))
+pub adding-start : (x : Index) (c : ℕ) (ts : List Tet) (w : List ℕ) → Adding x c ts w w 0
+adding-start x c ts w = record {
+  long = refl;
+  rest = λ v h. let e : c + 0 ≡ c = omega arith in subst (λ (d : ℕ). Adds x d ts w v) e h;
+}
 
--- how many there are
-pub size-two : (u : Trio) → (u.count ≡ 3 → ⊥) → (2 ≡ length (elements_of u)) × (2 ≤ 2) × (2 ≤ 3)
-size-two u h = (sym (ap length (elements-two u h)), omega arith, omega arith)
+module _ {x : Index} {c : ℕ} {ts : List Tet} {w u : List ℕ} {i : ℕ} (k : Adding x c ts w u i) where
+  pub adding-turn : (d : Tet) → i < length ts → (v : List ℕ) → length v ≡ length u → AddsOne x (c + i) (get_or ts i d) u v → Adding x c ts w v (i + 1)
+  adding-turn d h v l one = record {
+    long = l ∙ k.long;
+    rest = λ y more.
+        let e : i + 1 ≡ suc i = omega arith in
+        k.rest y (subst (λ (us : List Tet). Adds x (c + i) us u y) (sym (drop-cons ts i d h))
+        (adds-more (c + i) (c + (i + 1)) (get_or ts i d) (drop (suc i) ts) (omega arith) one (subst (λ (j : ℕ). Adds x (c + (i + 1)) (drop j ts) v y) e more)));
+  }
 
-pub size-three : (u : Trio) → u.count ≡ 3 → (3 ≡ length (elements_of u)) × (2 ≤ 3) × (3 ≤ 3)
-size-three u h = (sym (ap length (elements-three u h)), omega arith, omega arith)
+  pub adding-end : length ts ≤ i → Adds x c ts w u
+  adding-end h = k.rest u (subst (λ (us : List Tet). Adds x (c + i) us u u) (sym (drop_of_length-le ts h)) (adds_none {c = c + i}))
 
 -- the numbers stay small
 pub counts_same : {x : Index} {t : Tried} → Counted x t → Counts t t
 counts_same k = record { slots = k.slots; flips = omega arith }
-
-pub counts-more : {x : Index} {t : Tried} → Counted x t → (k : ℕ) → t.slots + k ≤ x.room → Counts t (record { slots = t.slots + k; flips = t.flips + 1 })
-counts-more q k h = let a = q.room in record { slots = omega arith; flips = omega arith }
 
 -- ---- the old elements
 
@@ -140,46 +137,39 @@ old-under ss (i ∷ is) (t ∷ ts) h = rw (lt-ltb i (length ss) (at_under ss i t
 
 -- ---- all of it
 
-module _ (μ : Measure) (x : Index) (n : ℕ) (t : Tried) (w : List ℕ) (s : State) (z : Holds x n t w s) (at : Places) (old cs new : Trio) (o : Old at old s) (made : elements_of new ≡ map (oriented μ) (elements_of cs)) where
-  abbrev is : List ℕ
-  is = places_of old.count at
-
+module _ (μ : Measure) (x : Index) (n : ℕ) (t : Tried) (w : List ℕ) (s : State) (z : Holds x n t w s) (is : List ℕ) (old cs new : List Tet) (o : Old is old s) (made : new ≡ map (oriented μ) cs) where
   -- the elements of these slots
-  elements-old : elements_at s.slots is ≡ elements_of old
-  elements-old = ap live o ∙ live-some (elements_of old)
+  elements-old : elements_at s.slots is ≡ old
+  elements-old = ap live o ∙ live-some old
 
   -- the test of the code is that of the definition
-  test : accepted μ (elements_at s.slots is) (map (oriented μ) (elements_of cs)) ≡ accepted μ (elements_of old) (elements_of new)
+  test : accepted μ (elements_at s.slots is) (map (oriented μ) cs) ≡ accepted μ old new
   test = rw (elements-old, made) refl
 
   -- not accepted: nothing changes
-  pub replace-not : accepted μ (elements_of old) (elements_of new) ≡ false → Holds x n t w (replace μ s is (elements_of cs)) × Kept x w w
+  pub replace-not : accepted μ old new ≡ false → Holds x n t w (replace μ s is cs) × Kept x w w
   unfolding replace
-  replace-not h = (subst (λ (b : Bool). Holds x n t w (cond b (record { slots = emptied is s.slots ++ map some (map (oriented μ) (elements_of cs)); flips = s.flips + 1 }) s)) (sym (test ∙ h)) z, kept_refl)
+  replace-not h = (subst (λ (b : Bool). Holds x n t w (cond b (record { slots = emptied is s.slots ++ map some (map (oriented μ) cs); flips = s.flips + 1 }) s)) (sym (test ∙ h)) z, kept_refl)
 
   -- how many are made
-  more-is : length (elements_of new) ≡ length (elements_of cs)
-  more-is = ap length made ∙ length-map (oriented μ) (elements_of cs)
-
-  -- there is room
-  pub replace-fits : t.slots + length (elements_of cs) ≤ x.room → (k : ℕ) → k ≡ length (elements_of new) → x.room < t.slots + k → ⊥
-  replace-fits room k e h = let m = more-is in omega arith
+  more-is : length new ≡ length cs
+  more-is = ap length made ∙ length-map (oriented μ) cs
 
   -- accepted: slots emptied and added
-  pub replace-made : accepted μ (elements_of old) (elements_of new) ≡ true → every (well_numbered x.vertices) (elements_of cs) ≡ true → t.slots + length (elements_of cs) ≤ x.room
-      → (u v : List ℕ) → Empties x is w u → Adds x t.slots (elements_of new) u v → (k : ℕ) → k ≡ length (elements_of new)
-      → Holds x n (record { slots = t.slots + k; flips = t.flips + 1 }) v (replace μ s is (elements_of cs)) × Kept x w v
+  pub replace-made : accepted μ old new ≡ true → every (well_numbered x.vertices) cs ≡ true → t.slots + length cs ≤ x.room
+      → (u v : List ℕ) → Empties x is w u → Adds x t.slots new u v → (k : ℕ) → k ≡ length new
+      → Holds x n (record { slots = t.slots + k; flips = t.flips + 1 }) v (replace μ s is cs) × Kept x w v
   unfolding replace
   replace-made h ok room u v empties adds k e =
       let m = more-is in
-      let inside : under t.slots is ≡ true = subst (λ (j : ℕ). under j is ≡ true) (slots-many z.stands) (old-under s.slots is (elements_of old) o) in
+      let inside : under t.slots is ≡ true = subst (λ (j : ℕ). under j is ≡ true) (slots-many z.stands) (old-under s.slots is old o) in
       let a = empties n t.slots s inside z.stands in
-      let fine : every (well_numbered x.vertices) (elements_of new) ≡ true = ap (every (well_numbered x.vertices)) made ∙ oriented-numbered μ x.vertices (elements_of cs) ok in
+      let fine : every (well_numbered x.vertices) new ≡ true = ap (every (well_numbered x.vertices)) made ∙ oriented-numbered μ x.vertices cs ok in
       let b = adds n (record { slots = emptied is s.slots; flips = s.flips }) (omega arith) fine a.0 in (
-        subst (λ (q : Bool). Holds x n (record { slots = t.slots + k; flips = t.flips + 1 }) v (cond q (record { slots = emptied is s.slots ++ map some (map (oriented μ) (elements_of cs)); flips = s.flips + 1 }) s)) (sym (test ∙ h))
+        subst (λ (q : Bool). Holds x n (record { slots = t.slots + k; flips = t.flips + 1 }) v (cond q (record { slots = emptied is s.slots ++ map some (map (oriented μ) cs); flips = s.flips + 1 }) s)) (sym (test ∙ h))
             (record {
-              stands = subst (λ (j : ℕ). SlotsStand x n (t.slots + j) v (record { slots = emptied is s.slots ++ map some (map (oriented μ) (elements_of cs)); flips = s.flips + 1 })) (sym e)
-                  (counted (subst (λ (l : List Tet). SlotsStand x n (t.slots + length (elements_of new)) v (record { slots = emptied is s.slots ++ map some l; flips = s.flips })) made b.0));
+              stands = subst (λ (j : ℕ). SlotsStand x n (t.slots + j) v (record { slots = emptied is s.slots ++ map some (map (oriented μ) cs); flips = s.flips + 1 })) (sym e)
+                  (counted (subst (λ (l : List Tet). SlotsStand x n (t.slots + length new) v (record { slots = emptied is s.slots ++ map some l; flips = s.flips })) made b.0));
               flips = ap (λ (j : ℕ). j + 1) z.flips;
             }),
         kept_trans a.1 b.1,

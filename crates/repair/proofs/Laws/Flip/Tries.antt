@@ -22,7 +22,7 @@ use Rattle.mesh.proofs.Laws.Boundary.Same.{length-map}
 use Rattle.repair.specs.declared.flip.counts.Tried.{Tried}
 use Rattle.repair.specs.Flip.{State, try_face, try_faces, try_edge, try_edges}
 use Rattle.repair.specs.inside.flip.Layout.{FlipRoom, FacesBound, EdgesBound, faces_at, edges_at, triple_at}
-use Rattle.repair.specs.inside.flip.Tries.{Holds, Counted, Counts, Went, Start, FaceListed, FacesListed, EdgeListed, EdgesListed, edge_row, face_rows_at, edge_rows_at}
+use Rattle.repair.specs.inside.flip.Tries.{Holds, Counts, Went, Start, FaceListed, FacesListed, EdgeListed, EdgesListed, edge_row, face_rows_at, edge_rows_at}
 use Rattle.repair.proofs.Laws.Flip.Layout.{kept_trans}
 
 -- ---- rows
@@ -116,9 +116,6 @@ module _ {x : Index} {n count : ℕ} {ps : List Float} {w₀ : List ℕ} (room :
   }
 
   module _ {w : List ℕ} {t : Tried} {i : ℕ} (q : AtFace x n count ps w₀ w t i) where
-    pub face-counted : Counted x t
-    face-counted = (let a = room.elements in let b = room.room in let c = room.slots in let d = q.most in let e = q.flips in record { start = omega arith; room = omega arith; slots = q.slots; flips = omega arith })
-
     pub faces-end : count ≤ i → (ts : List Tet) (fs : List Triple) (s : State) → Faces x n count w₀ ts fs s
         → Went x n (FacesBound n) w₀ w t (try_faces (measure (points_of x.vertices ps)) ts s fs)
     unfolding try_faces
@@ -208,9 +205,6 @@ module _ {x : Index} {n bad count : ℕ} {t₀ : Tried} {ps : List Float} {w₀ 
   }
 
   module _ {w : List ℕ} {t : Tried} {i : ℕ} (q : AtEdge x n bad count t₀ ps w₀ w t i) where
-    pub edge-counted : Counted x t
-    edge-counted = (let a = room.elements in let b = room.room in let c = room.slots in let d = q.most in let e = q.flips in record { start = omega arith; room = omega arith; slots = q.slots; flips = omega arith })
-
     pub edges-end : count ≤ i → (es : List Pair) (s : State) → Edges x n bad count t₀ w₀ es s
         → Went x n (EdgesBound n) w₀ w t (try_edges (measure (points_of x.vertices ps)) s es)
     unfolding try_edges

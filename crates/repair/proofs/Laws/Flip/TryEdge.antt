@@ -21,18 +21,16 @@ use Rattle.mesh.specs.Intake.{well_numbered}
 use Rattle.mesh.specs.Measure.{Measure}
 use Rattle.mesh.proofs.Laws.Complex.Sets.{and-fst, mem-here, mem-there, out-head, out-tail, nope, clash}
 use Rattle.mesh.proofs.Laws.Link.Members.{kept-elim}
-use Rattle.repair.specs.declared.flip.orient.Trio.{Trio}
 use Rattle.repair.specs.declared.flip.counts.Tried.{Tried}
-use Rattle.repair.specs.declared.flip.counts.Places.{Places}
 use Rattle.repair.specs.Flip.{State, slot_has, live, numbers_with, elements_at, emptied, besides, oriented, accepted, replace, three_to_two, try_edge}
-use Rattle.repair.specs.inside.flip.Trio.{elements_of}
 use Rattle.repair.specs.inside.Layout.{Same}
 use Rattle.repair.specs.inside.flip.Layout.{SlotsStand, Kept, EdgesBound, triple_at}
-use Rattle.repair.specs.inside.flip.Tries.{Holds, Went, Old, places_of, EdgeListed, edge_row}
-use Rattle.repair.specs.inside.flip.ThreeToTwo.{trio_in, three_of, others_of, ListedAt}
+use Rattle.repair.specs.inside.flip.Tries.{Holds, Went, Old, EdgeListed, edge_row}
+use Rattle.repair.specs.inside.improve.Collapse.{slot_at}
+use Rattle.repair.specs.inside.flip.ThreeToTwo.{three_in, others_of, ListedAt}
 use Rattle.repair.proofs.Laws.Same.{same-trans}
 use Rattle.repair.proofs.Laws.Site.Near.{kept-rising}
-use Rattle.repair.proofs.Laws.Flip.Slots.{elements-with}
+use Rattle.repair.proofs.Laws.Flip.Slots.{elements-with, live-some}
 use Rattle.repair.proofs.Laws.Flip.Edge.{besides-out, set-mem, set-rises, three-rise}
 use Rattle.repair.proofs.Laws.Flip.Layout.{area-long, slots-many, stands-kept, kept-area, kept_trans}
 use Rattle.repair.proofs.Laws.Flip.Bound.{edges_room, edges-turn}
@@ -77,7 +75,16 @@ module _ {x : Index} {n : ℕ} {t : Tried} {w : List ℕ} {s : State} (μ : Meas
       let y = find n t.slots s h.stands first l.1 in
       stays y.2 (turn_is ∙ ap (λ (q : Bool). turn q others) (ne_eqb (length is) 3 (λ q. d (y.0 ∙ q))))
 
-  module _ {v : List ℕ} {k : ℕ} (find : Finds v k) (k3 : k ≡ 3) {p : Triple} (ep : p ≡ triple_at v x.area) {old : Trio} (eo : old ≡ trio_in x v p) where
+  module _ {v : List ℕ} {k : ℕ} (find : Finds v k) (k3 : k ≡ 3) {p : Triple} (ep : p ≡ triple_at v x.area) {old : List Tet} (eo : old ≡ three_in x v p) where
+    abbrev ta : Tet
+    ta = slot_at x v p.a
+
+    abbrev tb : Tet
+    tb = slot_at x v p.b
+
+    abbrev tc : Tet
+    tc = slot_at x v p.c
+
     found : (k ≡ length is) × (take k (drop x.area v) ≡ is) × Same w v x.area (length w)
     found = find n t.slots s h.stands first l.1
 
@@ -91,41 +98,27 @@ module _ {x : Index} {n : ℕ} {t : Tried} {w : List ℕ} {s : State} (μ : Meas
     area-room : x.area + 24 ≤ length v
     area-room = let l = area-long there.room in omega arith
 
-    at_a : get_or s.slots p.a none ≡ some old.a
-    at_a = number-held there (edge_row e) p.a (ap (mem p.a) three ∙ mem-here p.a (p.b ∷ p.c ∷ [])) ∙ ap (λ (u : Trio). some u.a) (sym eo)
+    at_a : get_or s.slots p.a none ≡ some ta
+    at_a = number-held there (edge_row e) p.a (ap (mem p.a) three ∙ mem-here p.a (p.b ∷ p.c ∷ []))
 
-    at-b : get_or s.slots p.b none ≡ some old.b
+    at-b : get_or s.slots p.b none ≡ some tb
     at-b =
         number-held there (edge_row e) p.b (ap (mem p.b) three ∙ mem-there p.b p.a (p.b ∷ p.c ∷ []) (mem-here p.b (p.c ∷ [])))
-        ∙ ap (λ (u : Trio). some u.b) (sym eo)
 
-    at_c : get_or s.slots p.c none ≡ some old.c
+    at_c : get_or s.slots p.c none ≡ some tc
     at_c =
         number-held there (edge_row e) p.c (ap (mem p.c) three ∙ mem-there p.c p.a (p.b ∷ p.c ∷ []) (mem-there p.c p.b (p.c ∷ []) (mem-here p.c [])))
-        ∙ ap (λ (u : Trio). some u.c) (sym eo)
 
-    all_three : map (λ i. get_or s.slots i none) (p.a ∷ p.b ∷ p.c ∷ []) ≡ map some (three_of old)
-    all_three = rw (at_a, at-b, at_c) refl
+    all_three : map (λ i. get_or s.slots i none) (p.a ∷ p.b ∷ p.c ∷ []) ≡ map some old
+    all_three = rw (eo, at_a, at-b, at_c) refl
 
-    elements : elements_at s.slots is ≡ three_of old
+    elements : elements_at s.slots is ≡ old
     unfolding live
-    elements = ap (elements_at s.slots) three ∙ ap live all_three
+    elements = ap (elements_at s.slots) three ∙ ap live all_three ∙ live-some old
 
-    others-are : others ≡ others_of e (three_of old)
+    others-are : others ≡ others_of e old
     unfolding others_of
     others-are = ap (λ (l : List Tet). unique eqb (sort leb (besides (edge_row e) l))) elements
-
-    -- their numbers
-    abbrev places : Places
-    places = record { a = p.a; b = p.b; c = p.c }
-
-    places-are : places_of old.count places ≡ p.a ∷ p.b ∷ p.c ∷ []
-    unfolding places_of
-    places-are = ap (λ (u : Trio). places_of u.count places) eo
-
-    old-is : Old places old s
-    unfolding elements_of
-    old-is = ap (map (λ i. get_or s.slots i none)) places-are ∙ all_three ∙ ap (map some) (sym (ap (λ (u : Trio). cond (eqb u.count 3) (three_of old) (old.a ∷ old.b ∷ [])) eo))
 
     apart : Nodup (p.a ∷ p.b ∷ p.c ∷ [])
     apart = three-rise p.a p.b p.c (subst (λ (l : List ℕ). ordered (before leb) l ≡ true) three (kept-rising (λ i. slot_has (edge_row e) (get_or s.slots i none)) 0 (length s.slots)))
@@ -139,8 +132,8 @@ module _ {x : Index} {n : ℕ} {t : Tried} {w : List ℕ} {s : State} (μ : Meas
     c-b : p.c ≡ p.b → ⊥
     c-b q = out-head p.b p.c [] apart.1.0 (sym q)
 
-    module _ {u : List ℕ} {m : ℕ} (list : x.area + 24 ≤ length v → ListedAt x.area (others_of e (three_of old)) v u m) where
-      listed : ListedAt x.area (others_of e (three_of old)) v u m
+    module _ {u : List ℕ} {m : ℕ} (list : x.area + 24 ≤ length v → ListedAt x.area (others_of e old) v u m) where
+      listed : ListedAt x.area (others_of e old) v u m
       listed = list area-room
 
       same-all : Same w u x.area (length w)
@@ -160,7 +153,7 @@ module _ {x : Index} {n : ℕ} {t : Tried} {w : List ℕ} {s : State} (μ : Meas
         face = f.a ∷ f.b ∷ f.c ∷ []
 
         face-is : others ≡ face
-        face-is = others-are ∙ words-three (others_of e (three_of old)) u x.area m listed.count listed.words m3 f ef
+        face-is = others-are ∙ words-three (others_of e old) u x.area m listed.count listed.words m3 f ef
 
         turn-face : try_edge μ s e ≡ three_to_two μ s e is f.a f.b f.c
         turn-face = turn_is ∙ ap₂ (λ (q : Bool) (o : List ℕ). turn q o) is-three face-is
@@ -219,19 +212,19 @@ module _ {x : Index} {n : ℕ} {t : Tried} {w : List ℕ} {s : State} (μ : Meas
         bound = go (accepted μ (elements_at s.slots (p.a ∷ p.b ∷ p.c ∷ [])) (map (oriented μ) two))
           where
             go : (q : Bool) → EdgesBound n (cond q (record { slots = emptied (p.a ∷ p.b ∷ p.c ∷ []) s.slots ++ map some (map (oriented μ) two); flips = s.flips + 1 }) s).slots
-            go true = edges-turn n s.slots b p.a p.b p.c b-a c-a c-b old.a old.b old.c at_a at-b at_c (map (oriented μ) two) refl
+            go true = edges-turn n s.slots b p.a p.b p.c b-a c-a c-b ta tb tc at_a at-b at_c (map (oriented μ) two) refl
             go false = b
 
         -- the candidates take the place of the elements where they are accepted
         pub edge-flipped : q ≡ false → {new : List Tet} → new ≡ two → {r : Tried} {y : List ℕ}
-            → (Holds x n t u s → Old places old s → every (well_numbered x.vertices) new ≡ true → t.slots + length new ≤ x.room
-            → Holds x n r y (replace μ s (places_of old.count places) new) × Kept x u y)
+            → (Holds x n t u s → Old (p.a ∷ p.b ∷ p.c ∷ []) old s → every (well_numbered x.vertices) new ≡ true → t.slots + length new ≤ x.room
+            → Holds x n r y (replace μ s (p.a ∷ p.b ∷ p.c ∷ []) new) × Kept x u y)
             → Went x n (EdgesBound n) w y r (try_edge μ s e)
         edge-flipped g {new} en {r} {y} give =
             let room : t.slots + length new ≤ x.room =
-            (let k₁ = ap length en in let k₂ = edges_room n s.slots b p.a p.b p.c b-a c-a c-b old.a old.b old.c at_a at-b at_c in let k₃ = slots-many h.stands in let k₄ = h.stands.room.room in omega arith) in
-            let z = give (record { stands = after; flips = h.flips }) old-is (ap (every (well_numbered x.vertices)) en ∙ two-well) room in
-            let made : replace μ s (places_of old.count places) new ≡ replace μ s (p.a ∷ p.b ∷ p.c ∷ []) two = ap₂ (replace μ s) places-are en in
+            (let k₁ = ap length en in let k₂ = edges_room n s.slots b p.a p.b p.c b-a c-a c-b ta tb tc at_a at-b at_c in let k₃ = slots-many h.stands in let k₄ = h.stands.room.room in omega arith) in
+            let z = give (record { stands = after; flips = h.flips }) all_three (ap (every (well_numbered x.vertices)) en ∙ two-well) room in
+            let made : replace μ s (p.a ∷ p.b ∷ p.c ∷ []) new ≡ replace μ s (p.a ∷ p.b ∷ p.c ∷ []) two = ap (replace μ s (p.a ∷ p.b ∷ p.c ∷ [])) en in
             let same : try_edge μ s e ≡ replace μ s (p.a ∷ p.b ∷ p.c ∷ []) two =
             turn-face ∙ ap (λ (c : Bool). cond c s (replace μ s is two)) (sym searched ∙ g) ∙ ap (λ (i : List ℕ). replace μ s i two) three in
             subst (Went x n (EdgesBound n) w y r) (sym same) (record {

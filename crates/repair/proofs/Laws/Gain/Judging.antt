@@ -1,19 +1,19 @@
 -- Images judged one after the other up to the first that is not allowed, and what the collapse gains by them. Assumes nothing.
-use mathlib.Core.Path.{◌≡◌, refl, sym, ap, ap₂, subst, ◌∙◌}
-use mathlib.Core.Bool.{Bool, true, false, cond}
-use mathlib.Core.List.{List, [], ◌∷◌, map}
+use mathlib.Core.Path.{◌≡◌, refl, sym, ap, ap₂, ◌∙◌}
+use mathlib.Core.Bool.{Bool, true, false, cond, ◌||◌}
+use mathlib.Core.List.{List, [], ◌∷◌}
 use Prim.Native.Nat.{ℕ, zero, suc, ◌+◌, ◌-◌, ◌*◌, ◌≤◌, ◌<◌}
 use native.Mathlib.Nat.{add-zero, not-suc-le-zero}
 use native.Mathlib.Omega.{arith}
 use lib.Dec.{ltb}
 use lib.Ieee.{Float, lt}
-use lib.ListN.{length, drop}
+use lib.ListN.{drop}
 use lib.Seq.{get_or-drop, drop-drop}
 use borrow.Author.Tests.{lt-ltb, le-ltb, eq-eqb, ne_eqb}
+use Rattle.std.specs.Prelude.{None, Some}
 use Rattle.geometry.specs.declared.point.Point.{Point}
 use Rattle.geometry.specs.Float.{◌+₆₄◌, ◌*₆₄◌, smaller}
 use Rattle.geometry.specs.Literals.{tenth, e_12, thousandth_more}
-use Rattle.geometry.specs.Score.{lowest, lowest_from}
 use Rattle.mesh.specs.declared.element.Pair.{Pair}
 use Rattle.mesh.specs.declared.element.Tet.{Tet}
 use Rattle.mesh.specs.declared.measure.Measured.{Measured}
@@ -21,20 +21,18 @@ use Rattle.mesh.specs.Words.{word_at}
 use Rattle.mesh.specs.Tests.{every, nodup}
 use Rattle.mesh.specs.Element.{pair, tets, vertices_of}
 use Rattle.mesh.specs.Measure.{Measure, measure, bad_count, lowest_of, measured_of}
-use Rattle.mesh.proofs.Laws.Bools.{clash}
 use Rattle.repair.specs.declared.quality.Tally.{Tally}
 use Rattle.repair.specs.Improve.{image, image_of, collapsed, gains}
 use Rattle.repair.specs.inside.Layout.{pairs_of}
-use Rattle.repair.specs.inside.Quality.{started, counted, refused_of, tallied, allowed, judged, Judged}
+use Rattle.repair.specs.inside.Quality.{started, counted, tallied, allowed, judged, all_judged}
 use Rattle.repair.proofs.Laws.Measured.{measured-above, measured-score}
-use Rattle.repair.proofs.Laws.Gain.Tallies.{element_at, tets-next, tets-none, counted-few, counted-bad, tallied-lowest, tallied-bad}
+use Rattle.repair.proofs.Laws.Gain.Tallies.{element_at, tets-from, tets-none, counted-few, tallied-lowest, tallied-bad}
 
 -- ---- the image of a vertex
 
--- with the pairs left from q on the image is that by all
-pub record Seeking (w : List ℕ) (p k v q left : ℕ) : Type 0 where
-  pub bound : q + 2 * left ≤ length w
-  pub is : image (pairs_of left (drop q w)) v ≡ image (pairs_of k (drop p w)) v
+-- with the pairs from the i-th on the image is that by all
+pub record Seeking (w : List ℕ) (p k v i : ℕ) : Type 0 where
+  pub is : image (pairs_of (k - i) (drop (p + 2 * i) w)) v ≡ image (pairs_of k (drop p w)) v
 
 -- the same pairs where their words are the same
 pub pairs-same : (k : ℕ) (s t : List ℕ) → ((j : ℕ) → j < 2 * k → word_at t j ≡ word_at s j) → pairs_of k t ≡ pairs_of k s
@@ -51,157 +49,162 @@ pairs_next (suc k) p w h =
     let e : suc k - 1 ≡ k = omega arith in
     rw (e, get_or-drop p w 0 0, add-zero p, get_or-drop p w 1 0, drop-drop 2 p w) refl
 
-module _ {w : List ℕ} {p k v q left : ℕ} (g : Seeking w p k v q left) where
-  pub seek_found : 0 < left → word_at w q ≡ v → word_at w (q + 1) ≡ image (pairs_of k (drop p w)) v
-  unfolding image
-  seek_found h e = sym (ap (λ (es : List Pair). image es v) (pairs_next left q w h) ∙ rw (eq-eqb (word_at w q) v e) refl) ∙ g.is
+-- all of the k pairs at p, and those from the i-th on
+pub pairs-all : (k p : ℕ) (w : List ℕ) → pairs_of (k - 0) (drop (p + 2 * 0) w) ≡ pairs_of k (drop p w)
+pairs-all k p w =
+    let e : k - 0 ≡ k = omega arith in
+    let f : p + 2 * 0 ≡ p = omega arith in
+    ap₂ (λ (n q : ℕ). pairs_of n (drop q w)) e f
 
-  pub seek-turn : 0 < left → (word_at w q ≡ v → ⊥) → Seeking w p k v (q + 2) (left - 1)
-  unfolding image
-  seek-turn h e = record {
-    bound = let a = g.bound in omega arith;
-    is = sym (ap (λ (es : List Pair). image es v) (pairs_next left q w h) ∙ rw (ne_eqb (word_at w q) v e) refl) ∙ g.is;
-  }
+pub pairs-from : (k p i : ℕ) (w : List ℕ) → i < k
+    → pairs_of (k - i) (drop (p + 2 * i) w) ≡ pair (word_at w (p + 2 * i)) (word_at w (p + 2 * i + 1)) ∷ pairs_of (k - (i + 1)) (drop (p + 2 * (i + 1)) w)
+pairs-from k p i w h =
+    let e : k - i - 1 ≡ k - (i + 1) = omega arith in
+    let f : p + 2 * i + 2 ≡ p + 2 * (i + 1) = omega arith in
+    pairs_next (k - i) (p + 2 * i) w (omega arith) ∙ ap₂ (λ (n q : ℕ). pair (word_at w (p + 2 * i)) (word_at w (p + 2 * i + 1)) ∷ pairs_of n (drop q w)) e f
 
-  pub seek-end : left ≤ 0 → v ≡ image (pairs_of k (drop p w)) v
-  unfolding image pairs_of
-  seek-end h = go left h g.is
-    where
-      go : (l : ℕ) → l ≤ 0 → image (pairs_of l (drop q w)) v ≡ image (pairs_of k (drop p w)) v → v ≡ image (pairs_of k (drop p w)) v
-      go zero h e = e
-      go (suc l) h e = absurd (not-suc-le-zero h)
+pub pairs-over : (k p i : ℕ) (w : List ℕ) → k ≤ i → pairs_of (k - i) (drop (p + 2 * i) w) ≡ []
+unfolding pairs_of
+pairs-over k p i w h = let e : k - i ≡ 0 = omega arith in ap (λ (n : ℕ). pairs_of n (drop (p + 2 * i) w)) e
+
+pub seek-start : (w : List ℕ) (p k v : ℕ) → Seeking w p k v 0
+seek-start w p k v = record { is = ap (λ (es : List Pair). image es v) (pairs-all k p w) }
+
+module _ {w : List ℕ} {p k v i : ℕ} (g : Seeking w p k v i) where
+  pub seek_found : i < k → word_at w (p + 2 * i) ≡ v → word_at w (p + 2 * i + 1) ≡ image (pairs_of k (drop p w)) v
+  unfolding image
+  seek_found h e = sym (ap (λ (es : List Pair). image es v) (pairs-from k p i w h) ∙ rw (eq-eqb (word_at w (p + 2 * i)) v e) refl) ∙ g.is
+
+  pub seek-turn : i < k → (word_at w (p + 2 * i) ≡ v → ⊥) → Seeking w p k v (i + 1)
+  unfolding image
+  seek-turn h e = record { is = sym (ap (λ (es : List Pair). image es v) (pairs-from k p i w h) ∙ rw (ne_eqb (word_at w (p + 2 * i)) v e) refl) ∙ g.is }
+
+  pub seek-end : k ≤ i → v ≡ image (pairs_of k (drop p w)) v
+  unfolding image
+  seek-end h = sym (ap (λ (es : List Pair). image es v) (pairs-over k p i w h)) ∙ g.is
 
 -- ---- the tests of one image
 
 module _ (ps : List Point) (limit : Float) (r : Tally) (u : Tet) where
-  pub judged-over : nodup (vertices_of u) ≡ false → r ≡ judged (measure ps) limit r u
+  pub judged-over : nodup (vertices_of u) ≡ false → Some r ≡ judged (measure ps) limit r u
   unfolding judged
   judged-over e = sym (rw e refl)
 
   module _ (e : nodup (vertices_of u) ≡ true) (m : Measured) (em : m ≡ measured_of ps u) where
-    pub judged-flat : m.above ≡ false → refused_of r ≡ judged (measure ps) limit r u
+    pub judged-flat : m.above ≡ false → None ≡ judged (measure ps) limit r u
     unfolding judged
     judged-flat h = sym (rw (e, sym (measured-above ps u em) ∙ h) refl)
 
     module _ (h : m.above ≡ true) where
-      pub judged-worse : lt (m.score +₆₄ e_12) limit ≡ true → refused_of r ≡ judged (measure ps) limit r u
+      pub judged-worse : lt (m.score +₆₄ e_12) limit ≡ true → None ≡ judged (measure ps) limit r u
       unfolding judged
       judged-worse g = sym (rw (e, sym (measured-above ps u em) ∙ h, sym (measured-score ps u em h), g) refl)
 
-      pub judged-well : lt (m.score +₆₄ e_12) limit ≡ false → counted r m.score ≡ judged (measure ps) limit r u
+      pub judged-well : lt (m.score +₆₄ e_12) limit ≡ false → Some (counted r m.score) ≡ judged (measure ps) limit r u
       unfolding judged
       judged-well g = sym (rw (e, sym (measured-above ps u em) ∙ h, sym (measured-score ps u em h), g) refl)
 
--- ---- one more image
+-- ---- the loop over the images
 
 module _ (μ : Measure) (limit : Float) where
-  -- all so far were allowed: with those left r counts all
-  pub record Passed (kept : List Tet) (r : Tally) (rest : List Tet) : Type 0 where
-    pub ok : r.ok ≡ true
-    pub all : every (allowed μ limit) rest ≡ every (allowed μ limit) kept
-    pub lowest : lowest_from r.lowest (map μ.score rest) ≡ lowest_of μ kept
-    pub bad : r.bad + bad_count μ rest ≡ bad_count μ kept
+  -- one more image, allowed or not
+  first : (r : Tally) (u : Tet) (rest : List Tet) (b c : Bool) → allowed μ limit u ≡ c → (r' : Tally)
+      → cond b (cond c (Some (counted r (μ.score u))) None) (Some r) ≡ Some r'
+      → all_judged μ limit r' rest ≡ all_judged μ limit r (cond b (u ∷ rest) rest)
+  unfolding all_judged tallied
+  first r u rest true true e r' h =
+      let q : r' ≡ counted r (μ.score u) = cc in
+      ap (λ (y : Tally). all_judged μ limit y rest) q ∙ sym (rw e refl)
+  first r u rest true false e r' h = absurd cc
+  first r u rest false c e r' h =
+      let q : r' ≡ r = cc in
+      ap (λ (y : Tally). all_judged μ limit y rest) q
 
-  pub judged-few : (r : Tally) (u : Tet) → (judged μ limit r u).bad ≤ r.bad + 1
-  unfolding judged
-  judged-few r u = go (nodup (vertices_of u)) (allowed μ limit u)
-    where
-      go : (b c : Bool) → (cond b (cond c (counted r (μ.score u)) (refused_of r)) r).bad ≤ r.bad + 1
-      go true true = counted-few r (μ.score u)
-      go true false = omega arith
-      go false c = omega arith
+  failed : (r : Tally) (u : Tet) (rest : List Tet) (b c : Bool) → allowed μ limit u ≡ c
+      → cond b (cond c (Some (counted r (μ.score u))) None) (Some r) ≡ None
+      → None ≡ all_judged μ limit r (cond b (u ∷ rest) rest)
+  unfolding all_judged
+  failed r u rest true true e h = absurd cc
+  failed r u rest true false e h = sym (rw e refl)
+  failed r u rest false c e h = absurd cc
 
-  passed_start : (kept : List Tet) (r : Tally) → r ≡ started → Passed kept r kept
-  unfolding lowest
-  passed_start kept r e = subst (λ (q : Tally). Passed kept q kept) (sym e) (record { ok = refl; all = refl; lowest = refl; bad = omega arith })
-
-  passed-end : (kept : List Tet) (r : Tally) → Passed kept r [] → Judged μ limit kept r
-  unfolding lowest_from
-  passed-end kept r g = record { all = g.ok ∙ g.all; lowest = λ h. g.lowest; bad = λ h. sym (add-zero r.bad) ∙ g.bad }
-
-  module _ (kept : List Tet) (r : Tally) (u : Tet) (rest : List Tet) where
-    passed-turn : Passed kept r (cond (nodup (vertices_of u)) (u ∷ rest) rest) → (judged μ limit r u).ok ≡ true → Passed kept (judged μ limit r u) rest
-    unfolding judged counted lowest_from
-    passed-turn = go (nodup (vertices_of u)) (allowed μ limit u) refl
-      where
-        go : (b c : Bool) → allowed μ limit u ≡ c → Passed kept r (cond b (u ∷ rest) rest) → (cond b (cond c (counted r (μ.score u)) (refused_of r)) r).ok ≡ true
-            → Passed kept (cond b (cond c (counted r (μ.score u)) (refused_of r)) r) rest
-        go true true e g h = record { ok = h; all = sym (rw e refl) ∙ g.all; lowest = g.lowest; bad = counted-bad μ r u rest ∙ g.bad }
-        go true false e g h = clash false h refl
-        go false c e g h = g
-
-    passed-fail : Passed kept r (cond (nodup (vertices_of u)) (u ∷ rest) rest) → (judged μ limit r u).ok ≡ false → Judged μ limit kept (judged μ limit r u)
-    unfolding judged counted
-    passed-fail = go (nodup (vertices_of u)) (allowed μ limit u) refl
-      where
-        go : (b c : Bool) → allowed μ limit u ≡ c → Passed kept r (cond b (u ∷ rest) rest) → (cond b (cond c (counted r (μ.score u)) (refused_of r)) r).ok ≡ false
-            → Judged μ limit kept (cond b (cond c (counted r (μ.score u)) (refused_of r)) r)
-        go true true e g h = clash r.ok g.ok h
-        go true false e g h = record { all = sym (rw e refl) ∙ g.all; lowest = λ i. clash false i refl; bad = λ i. clash false i refl }
-        go false c e g h = clash r.ok g.ok h
-
-  -- ---- the loop
+  few : (r : Tally) (u : Tet) (b c : Bool) (r' : Tally) → cond b (cond c (Some (counted r (μ.score u))) None) (Some r) ≡ Some r' → r'.bad ≤ r.bad + 1
+  few r u true true r' h = let q : r' ≡ counted r (μ.score u) = cc in omega (arith, counted-few r (μ.score u), ap (λ (y : Tally). y.bad) q)
+  few r u true false r' h = absurd cc
+  few r u false c r' h = let q : r' ≡ r = cc in omega (arith, ap (λ (y : Tally). y.bad) q)
 
   module _ (es : List Pair) (w : List ℕ) (p n : ℕ) where
-    pub record Judging (r : Tally) (q left : ℕ) : Type 0 where
-      pub bound : q + 4 * left ≤ length w
-      pub few : r.bad + left ≤ 16384
-      pub passed : Passed (collapsed es (tets n (drop p w))) r (collapsed es (tets left (drop q w)))
+    -- the images of the elements, all and from the i-th on
+    abbrev whole : List Tet
+    whole = collapsed es (tets n (drop p w))
 
-    pub judge-start : n ≤ 16384 → p + 4 * n ≤ length w → (r : Tally) → r ≡ started → Judging r p n
-    judge-start h g r e = record { bound = g; few = omega (arith, ap (λ (u : Tally). u.bad) e); passed = passed_start (collapsed es (tets n (drop p w))) r e }
+    abbrev after : ℕ → List Tet
+    after i = collapsed es (tets (n - i) (drop (p + 4 * i) w))
 
-    module _ {r : Tally} {q left : ℕ} (g : Judging r q left) where
-      module _ (h : 0 < left) (t u : Tet) (r' : Tally) (et : t ≡ element_at w q) (eu : u ≡ image_of (image es) t) (er : r' ≡ judged μ limit r u) where
-        first : Passed (collapsed es (tets n (drop p w))) r (cond (nodup (vertices_of u)) (u ∷ collapsed es (tets (left - 1) (drop (q + 4) w))) (collapsed es (tets (left - 1) (drop (q + 4) w))))
-        first =
-            subst (λ (y : Tet). Passed (collapsed es (tets n (drop p w))) r (cond (nodup (vertices_of y)) (y ∷ collapsed es (tets (left - 1) (drop (q + 4) w))) (collapsed es (tets (left - 1) (drop (q + 4) w)))))
-            (sym (eu ∙ ap (image_of (image es)) et))
-            (subst (λ (ts : List Tet). Passed (collapsed es (tets n (drop p w))) r (collapsed es ts)) (tets-next left q w h) g.passed)
+    -- those before the i-th are allowed: with those from it on r counts all
+    pub record Judging (r : Tally) (i : ℕ) : Type 0 where
+      pub few : r.bad ≤ i
+      pub is : all_judged μ limit r (after i) ≡ all_judged μ limit started whole
 
-        pub judge-turn : r'.ok ≡ true → Judging r' (q + 4) (left - 1)
-        judge-turn o = record {
-          bound = let a = g.bound in omega arith;
-          few = let a = g.few in omega (arith, ap (λ (y : Tally). y.bad) er, judged-few r u);
-          passed =
-              subst (λ (y : Tally). Passed (collapsed es (tets n (drop p w))) y (collapsed es (tets (left - 1) (drop (q + 4) w)))) (sym er)
-              (passed-turn (collapsed es (tets n (drop p w))) r u (collapsed es (tets (left - 1) (drop (q + 4) w))) first (sym (ap (λ (y : Tally). y.ok) er) ∙ o));
+    module _ {r : Tally} {i : ℕ} (g : Judging r i) where
+      module _ (h : i < n) (t u : Tet) (et : t ≡ element_at w (p + 4 * i)) (eu : u ≡ image_of (image es) t) where
+        turned : after i ≡ cond (nodup (vertices_of u)) (u ∷ after (i + 1)) (after (i + 1))
+        turned =
+            ap (collapsed es) (tets-from n p i w h)
+            ∙ ap (λ (y : Tet). cond (nodup (vertices_of y)) (y ∷ after (i + 1)) (after (i + 1))) (sym (eu ∙ ap (image_of (image es)) et))
+
+        pub judge-turn : (r' : Tally) → Some r' ≡ judged μ limit r u → Judging r' (i + 1)
+        unfolding judged
+        judge-turn r' e = record {
+          few = omega (arith, g.few, few r u (nodup (vertices_of u)) (allowed μ limit u) r' (sym e));
+          is = first r u (after (i + 1)) (nodup (vertices_of u)) (allowed μ limit u) refl r' (sym e) ∙ ap (all_judged μ limit r) (sym turned) ∙ g.is;
         }
 
-        pub judge-fail : r'.ok ≡ false → Judged μ limit (collapsed es (tets n (drop p w))) r'
-        judge-fail o =
-            subst (Judged μ limit (collapsed es (tets n (drop p w)))) (sym er)
-            (passed-fail (collapsed es (tets n (drop p w))) r u (collapsed es (tets (left - 1) (drop (q + 4) w))) first (sym (ap (λ (y : Tally). y.ok) er) ∙ o))
+        pub judge-fail : None ≡ judged μ limit r u → None ≡ all_judged μ limit started whole
+        unfolding judged
+        judge-fail e = failed r u (after (i + 1)) (nodup (vertices_of u)) (allowed μ limit u) refl (sym e) ∙ ap (all_judged μ limit r) (sym turned) ∙ g.is
 
-      pub judge-end : left ≤ 0 → Judged μ limit (collapsed es (tets n (drop p w))) r
-      judge-end h =
-          passed-end (collapsed es (tets n (drop p w))) r
-          (subst (λ (ts : List Tet). Passed (collapsed es (tets n (drop p w))) r (collapsed es ts)) (tets-none left q w h) g.passed)
+      pub judge-end : n ≤ i → Some r ≡ all_judged μ limit started whole
+      unfolding all_judged tallied
+      judge-end h = sym (ap (λ (ts : List Tet). all_judged μ limit r (collapsed es ts)) (tets-none (n - i) (p + 4 * i) w (omega arith))) ∙ g.is
 
 -- ---- what is gained
 
-module _ (μ : Measure) (old kept : List Tet) (a b : Tally) (limit : Float) (ea : a ≡ tallied μ started old) (el : limit ≡ smaller a.lowest tenth) (j : Judged μ limit kept b) where
+module _ (μ : Measure) (old kept : List Tet) (a : Tally) (limit : Float) (ea : a ≡ tallied μ started old) (el : limit ≡ smaller a.lowest tenth) where
   low : a.lowest ≡ lowest_of μ old
   low = ap (λ (y : Tally). y.lowest) ea ∙ tallied-lowest μ old
 
   many : a.bad ≡ bad_count μ old
   many = ap (λ (y : Tally). y.bad) ea ∙ tallied-bad μ old
 
-  all : b.ok ≡ every (allowed μ (smaller (lowest_of μ old) tenth)) kept
-  all = j.all ∙ ap (λ (y : Float). every (allowed μ y) kept) (el ∙ ap (λ (y : Float). smaller y tenth) low)
+  all : every (allowed μ limit) kept ≡ every (allowed μ (smaller (lowest_of μ old) tenth)) kept
+  all = ap (λ (y : Float). every (allowed μ y) kept) (el ∙ ap (λ (y : Float). smaller y tenth) low)
 
   -- one is not allowed
-  pub gains-no : b.ok ≡ false → false ≡ gains μ old kept
-  gains-no h = sym (rw (sym all ∙ h) refl)
+  pub gains-no : None ≡ all_judged μ limit started kept → false ≡ gains μ old kept
+  unfolding all_judged
+  gains-no = go (every (allowed μ limit) kept) refl
+    where
+      go : (b : Bool) → every (allowed μ limit) kept ≡ b → None ≡ cond b (Some (tallied μ started kept)) None → false ≡ gains μ old kept
+      go true e h = absurd cc
+      go false e h = sym (rw (sym all ∙ e) refl)
 
-  -- fewer are bad
-  pub gains-fewer : b.ok ≡ true → b.bad < a.bad → true ≡ gains μ old kept
-  gains-fewer h g =
-      let e : ltb (bad_count μ kept) (bad_count μ old) ≡ true = lt-ltb (bad_count μ kept) (bad_count μ old) (omega (arith, many, j.bad h)) in
-      sym (rw (sym all ∙ h, e) refl)
+  -- fewer are bad, or the lowest score decides
+  gains-so : (b : Tally) → Some b ≡ all_judged μ limit started kept → (ltb b.bad a.bad || lt (a.lowest *₆₄ thousandth_more) b.lowest) ≡ gains μ old kept
+  unfolding all_judged
+  gains-so b = go (every (allowed μ limit) kept) refl
+    where
+      go : (c : Bool) → every (allowed μ limit) kept ≡ c → Some b ≡ cond c (Some (tallied μ started kept)) None
+          → (ltb b.bad a.bad || lt (a.lowest *₆₄ thousandth_more) b.lowest) ≡ gains μ old kept
+      go false e h = absurd cc
+      go true e h =
+          let q : b ≡ tallied μ started kept = cc in
+          let l : b.lowest ≡ lowest_of μ kept = ap (λ (y : Tally). y.lowest) q ∙ tallied-lowest μ kept in
+          let k : b.bad ≡ bad_count μ kept = ap (λ (y : Tally). y.bad) q ∙ tallied-bad μ kept in
+          rw (low, l, many, k) (sym (rw (sym all ∙ e) refl))
 
-  -- the lowest score decides
-  pub gains-higher : b.ok ≡ true → a.bad ≤ b.bad → lt (a.lowest *₆₄ thousandth_more) b.lowest ≡ gains μ old kept
-  gains-higher h g =
-      let e : ltb (bad_count μ kept) (bad_count μ old) ≡ false = le-ltb (bad_count μ kept) (bad_count μ old) (omega (arith, many, j.bad h)) in
-      rw (low, j.lowest h) (sym (rw (sym all ∙ h, e) refl))
+  pub gains-fewer : (b : Tally) → Some b ≡ all_judged μ limit started kept → b.bad < a.bad → ltb b.bad a.bad ≡ gains μ old kept
+  gains-fewer b h l = let e = lt-ltb b.bad a.bad l in e ∙ ap (λ (c : Bool). c || lt (a.lowest *₆₄ thousandth_more) b.lowest) (sym e) ∙ gains-so b h
+
+  pub gains-higher : (b : Tally) → Some b ≡ all_judged μ limit started kept → a.bad ≤ b.bad → lt (a.lowest *₆₄ thousandth_more) b.lowest ≡ gains μ old kept
+  gains-higher b h l = ap (λ (c : Bool). c || lt (a.lowest *₆₄ thousandth_more) b.lowest) (sym (le-ltb b.bad a.bad l)) ∙ gains-so b h

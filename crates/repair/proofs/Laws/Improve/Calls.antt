@@ -17,7 +17,7 @@ use Rattle.geometry.specs.Units.{units_of}
 use Rattle.mesh.specs.declared.intake.Sizes.{Sizes}
 use Rattle.mesh.specs.Intake.{intake}
 use Rattle.mesh.specs.Measure.{measure, score_of, lowest_of}
-use Rattle.repair.specs.declared.answer.Answer.TheVariants.{Done, Refused}
+use Rattle.repair.specs.Step.{Done, Refused}
 use Rattle.repair.specs.Mesh.{Mesh, Result, made, refused}
 use Rattle.repair.specs.Improve
 use Rattle.repair.specs.Smooth

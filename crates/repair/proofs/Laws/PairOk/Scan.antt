@@ -1,37 +1,26 @@
 -- A scan of elements for one that passes a test. Assumes nothing.
-use mathlib.Core.Path.{◌≡◌, sym, ap, ◌∙◌}
-use mathlib.Core.Bool.{Bool, true, false, ◌||◌}
+use mathlib.Core.Path.{◌≡◌, refl, ap}
+use mathlib.Core.Bool.{Bool, ◌||◌}
 use mathlib.Core.List.{List}
-use Prim.Native.Nat.{ℕ, suc, ◌+◌, ◌≤◌, ◌<◌}
-use native.Mathlib.Numerals.{add-one}
+use Prim.Native.Nat.{ℕ, zero, suc, ◌+◌, ◌*◌}
 use native.Mathlib.Omega.{arith}
-use lib.ListN.{drop, drop_of_length-le}
-use lib.Seq.{drop-cons}
+use lib.ListN.{drop}
+use lib.Seq.{get_or-drop, drop-drop}
+use Rattle.std.specs.List.{list_any, range_with_len}
 use Rattle.mesh.specs.declared.element.Tet.{Tet}
-use Rattle.mesh.specs.Element.{tet, tets}
+use Rattle.mesh.specs.Element.{tets}
 use Rattle.mesh.specs.inside.Intake.{tet_at}
-use Rattle.mesh.proofs.Laws.Intake.Reads.{length-tets, tets-at}
 use Rattle.mesh.specs.Tests.{any}
+use native.Mathlib.Nat.{add-zero}
 
-module _ (p : Tet → Bool) (n : ℕ) (s : List ℕ) (i : ℕ) where
-  -- one of those from the i-th on passes where one of all does
-  abbrev pub AnyLeft : Type 0
-  AnyLeft = any p (drop i (tets n s)) ≡ any p (tets n s)
+-- the elements from the i-th on, tested one by one
+scanned : (q : Tet → Bool) (s : List ℕ) (n i : ℕ) → list_any (λ e. q (tet_at s e)) (range_with_len i n) ≡ any q (tets n (drop (4 * i) s))
+unfolding tets tet_at
+scanned q s zero i = refl
+scanned q s (suc n) i =
+    let e : 4 * i + 4 ≡ 4 * (i + 1) = omega arith in
+    rw (get_or-drop (4 * i) s 0 0, add-zero (4 * i), get_or-drop (4 * i) s 1 0, get_or-drop (4 * i) s 2 0, get_or-drop (4 * i) s 3 0, drop-drop 4 (4 * i) s, e)
+    (ap (λ (b : Bool). q (tet_at s i) || b) (scanned q s n (i + 1)))
 
-  any_at : i < n → any p (drop i (tets n s)) ≡ (p (tet_at s i) || any p (drop (i + 1) (tets n s)))
-  any_at h =
-      ap (any p) (drop-cons (tets n s) i (tet 0 0 0 0) (omega (arith, length-tets n s)))
-      ∙ ap (λ (t : Tet). p t || any p (drop (suc i) (tets n s))) (tets-at n s i (tet 0 0 0 0) h)
-      ∙ ap (λ (k : ℕ). p (tet_at s i) || any p (drop k (tets n s))) (sym (add-one i))
-
-  -- the element i fails
-  pub any-turn : i < n → AnyLeft → p (tet_at s i) ≡ false → any p (drop (i + 1) (tets n s)) ≡ any p (tets n s)
-  any-turn h e f = sym (any_at h ∙ ap (λ (b : Bool). b || any p (drop (i + 1) (tets n s))) f) ∙ e
-
-  -- it passes
-  pub any_found : i < n → AnyLeft → p (tet_at s i) ≡ true → any p (tets n s) ≡ true
-  any_found h e f = sym e ∙ any_at h ∙ ap (λ (b : Bool). b || any p (drop (i + 1) (tets n s))) f
-
-  -- none is left
-  pub any-end : n ≤ i → AnyLeft → any p (tets n s) ≡ false
-  any-end h e = sym e ∙ ap (any p) (drop_of_length-le (tets n s) {i = i} (omega (arith, length-tets n s)))
+pub scanned-all : (q : Tet → Bool) (s : List ℕ) (n : ℕ) → list_any (λ e. q (tet_at s e)) (range_with_len 0 n) ≡ any q (tets n s)
+scanned-all q s n = scanned q s n 0

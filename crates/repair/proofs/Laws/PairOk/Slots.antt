@@ -110,6 +110,3 @@ module _ (o : Options) (m : Mesh) (a b : ℕ) (ts : List Tet) where
       let A = sub (bits_of (stratum_of o m a)) (bits_of (stratum_of o m b)) in
       let B = ltb (length (bits_of (stratum_of o m a))) 3 in
       rw (h, and-fst A B h)
-
-  pub pair-no : stratum_rule o m a b ≡ false → false ≡ pair_ok o m ts (pair a b)
-  pair-no h = sym (ap (λ (c : Bool). c && (any (λ t. has a t && has b t) ts && link_ok (stratum_of o m) a b ts)) h)

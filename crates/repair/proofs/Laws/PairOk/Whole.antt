@@ -1,6 +1,6 @@
 -- A pair's tests from its words to the answer. Assumes nothing.
 use mathlib.Core.Path.{◌≡◌, sym, ap, ap₂, subst, ◌∙◌}
-use mathlib.Core.Bool.{Bool, true, false}
+use mathlib.Core.Bool.{Bool, true}
 use mathlib.Core.List.{List}
 use Prim.Native.Nat.{ℕ, ◌+◌, ◌*◌, ◌≤◌, ◌<◌}
 use lib.ListN.{length, drop}
@@ -18,7 +18,6 @@ use Rattle.repair.specs.Mesh.{Mesh}
 use Rattle.repair.specs.Improve.{State, stratum_rule, pair_ok}
 use Rattle.repair.specs.inside.Layout.{Room, Stands, Same, pairs_at}
 use Rattle.repair.specs.inside.improve.PairTest.{elements_link}
-use Rattle.repair.proofs.Laws.PairOk.Slots.{pair-no}
 use Rattle.repair.proofs.Laws.PairOk.Gathered.{Gathered, gathered, gathered-ready, gathered-pair, gathered-same}
 
 module _ (x : Index) (n p : ℕ) (w : List ℕ)
@@ -40,10 +39,6 @@ module _ (x : Index) (n p : ℕ) (w : List ℕ)
 
   read : (o : Options) (m : Mesh) (s : State) → pair_ok o m s.elements (pair a b) ≡ here o m s
   read o m s = ap₂ (λ (u v : ℕ). pair_ok o m s.elements (pair u v)) ea eb
-
-  -- the stratum rule fails
-  pub rule-fails : (o : Options) (m : Mesh) (s : State) → stratum_rule o m a b ≡ false → false ≡ here o m s
-  rule-fails o m s h = pair-no o m a b s.elements h ∙ read o m s
 
   module _ (k : ℕ) (w₁ w₂ : List ℕ) (ek : k ≡ length (star_list x w a b)) (e₁ : w₁ ≡ starred x w a b) (e₂ : w₂ ≡ elements_in x k w₁) where
     found : Gathered x n a b w w₂ k

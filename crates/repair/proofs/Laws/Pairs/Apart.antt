@@ -5,10 +5,10 @@ use mathlib.Core.Logic.{inl, inr}
 use mathlib.Core.Bool.{true, false, not, ◌&&◌}
 use mathlib.Core.List.{List, [], ◌∷◌, Memᴰ}
 use Prim.Native.Nat.{ℕ, ◌<◌}
-use native.Mathlib.Omega.{arith}
 use borrow.Author.Tests.{eqb-true, eq-eqb, ltb-true}
 use lib.Dec.{eqb, ltb}
 use lib.ListN.{length}
+use Rattle.std.specs.Prelude.{Option, None, Some}
 use Rattle.geometry.specs.declared.bounds.Options.{Options}
 use Rattle.geometry.specs.declared.bounds.Ranks.{Ranks}
 use Rattle.mesh.specs.declared.element.Pair.{Pair}
@@ -26,7 +26,7 @@ use Rattle.repair.specs.Improve.{State, cap_of, active_group, partner, partners,
 use Rattle.repair.specs.inside.Layout.{Apart, Pairs, Stands}
 use Rattle.repair.specs.inside.improve.Partners.{seconds, Paired}
 use Rattle.repair.proofs.Laws.Improve.Single.{ranks-sound, ranks-refl}
-use Rattle.repair.proofs.Laws.Improve.Counts.{firsts, firsts-mem, firsts-nodup, active-nodup, active-self, some-length}
+use Rattle.repair.proofs.Laws.Improve.Counts.{firsts, firsts-mem, firsts-nodup, active-nodup}
 use Rattle.repair.proofs.Laws.Pairs.Rows.{below-group}
 use Rattle.repair.proofs.Laws.Pairs.Partners.{partner-cases}
 use Rattle.mesh.proofs.Laws.Complex.Tests.{nodup-sound}
@@ -183,7 +183,7 @@ module _ (o : Options) (m : Mesh) where
 
 -- ---- what `find_pairs` gives
 
-module _ {o : Options} {m : Mesh} {x : Index} {n : ℕ} {w : List ℕ} {s : State} (S : Stands o m x n w s) (a b : ℕ) {w' : List ℕ} {r : ℕ}
+module _ {o : Options} {m : Mesh} {x : Index} {n : ℕ} {w : List ℕ} {s : State} (S : Stands o m x n w s) (a b : ℕ) {w' : List ℕ} {r : Option ℕ}
     (p : Paired o m x (active_group o m s.replaced a) (active_group o m s.replaced b) w w' r) where
   abbrev left : List ℕ
   left = active_group o m s.replaced a
@@ -191,25 +191,18 @@ module _ {o : Options} {m : Mesh} {x : Index} {n : ℕ} {w : List ℕ} {s : Stat
   abbrev right : List ℕ
   right = active_group o m s.replaced b
 
-  -- some pairs: the groups pair off
-  pub some-off : 0 < r → pair_off left right (partners o m left right) ≡ true
-  some-off h =
+  -- pairs: the groups pair off
+  pub some-off : (k : ℕ) → r ≡ Some k → pair_off left right (partners o m left right) ≡ true
+  some-off k h =
       elim (split (pair_off left right (partners o m left right))) [
         | inl q ↦ q
-        | inr q ↦ absurd (let z : r ≡ 0 = p.count ∙ rw q refl in omega arith)
+        | inr q ↦ absurd (let z : r ≡ None = p.count ∙ rw q refl in cc)
       ]
 
   -- and are such as `replace` takes
-  pub some_pairs : 0 < r → Pairs x.vertices (partners o m left right)
-  some_pairs h = subst (λ (k : ℕ). Pairs k (partners o m left right)) S.many (pairs-off o m s.replaced a b (some-off h))
+  pub some_pairs : (k : ℕ) → r ≡ Some k → Pairs x.vertices (partners o m left right)
+  some_pairs k h = subst (λ (k : ℕ). Pairs k (partners o m left right)) S.many (pairs-off o m s.replaced a b (some-off k h))
 
-  -- none, where a is not replaced: the groups do not pair off
-  pub none-off : r ≡ 0 → a < x.vertices → mem a s.replaced ≡ false → pair_off left right (partners o m left right) ≡ false
-  none-off z l h =
-      nope (λ q.
-      let c : r ≡ length (partners o m left right) = p.count ∙ rw q refl in
-      let e : length (partners o m left right) ≡ length left = eqb-true (length (partners o m left right)) (length left)
-      (and-fst (eqb (length (partners o m left right)) (length left)) (nodup (seconds (partners o m left right)))
-      (and-snd (eqb (length left) (length right)) (eqb (length (partners o m left right)) (length left) && nodup (seconds (partners o m left right))) q)) in
-      let k : 0 < length left = some-length a left (active-self o m s.replaced a (omega (arith, S.many)) h) in
-      omega arith)
+  -- none: the groups do not pair off
+  pub none-off : r ≡ None → pair_off left right (partners o m left right) ≡ false
+  none-off z = nope (λ q. let c : r ≡ Some (length (partners o m left right)) = p.count ∙ rw q refl in absurd cc)

@@ -6,18 +6,15 @@ use Prim.Native.Nat.{ℕ, ◌+◌, ◌*◌}
 use native.Mathlib.Omega.{arith}
 use lib.Dec.{eqb}
 use lib.ListN.{length, drop}
+use Rattle.std.specs.Prelude.{Option, None, Some}
 use Rattle.geometry.specs.declared.point.Point.{Point}
 use Rattle.geometry.specs.declared.bounds.Options.{Options}
 use Rattle.mesh.specs.declared.element.Pair.{Pair}
 use Rattle.mesh.specs.declared.star.Index.{Index}
-use Rattle.mesh.specs.Sort.{sort}
-use Rattle.mesh.specs.inside.Rows.{le_row}
-use Rattle.mesh.specs.Words.{flat}
 use Rattle.mesh.specs.Complex.{mem, keep}
 use Rattle.mesh.specs.Tests.{every}
 use Rattle.mesh.specs.Element.{tets}
 use Rattle.mesh.specs.Group.{group_of}
-use Rattle.mesh.specs.inside.Group.{group_rows}
 use Rattle.mesh.specs.inside.List.{gone}
 use Rattle.mesh.proofs.Laws.Parts.{part_same, rest-same}
 use Rattle.mesh.proofs.Laws.Star.Chains.{complete-kept}
@@ -25,22 +22,12 @@ use Rattle.repair.specs.declared.improve.partners.Run.{Run}
 use Rattle.repair.specs.Mesh.{Mesh}
 use Rattle.repair.specs.Improve.{State, active_group, partners, pair_off}
 use Rattle.repair.specs.inside.Layout.{flags_at, pairs_at, Room, live_in, slot_ok, Same, Stands}
-use Rattle.repair.specs.inside.improve.Partners.{Ranked, members_of, active_in, active_of, IsGroup, only, Paired}
+use Rattle.repair.specs.inside.improve.Partners.{members_of, active_in, active_of, IsGroup, only, Paired}
 use Rattle.repair.proofs.Laws.Pairs.Partners.{partners-only}
 use Rattle.repair.proofs.Laws.Pairs.Pairing.{keep-below}
 use Rattle.repair.proofs.Laws.Layout.{room-laid}
 
 module _ {o : Options} {m : Mesh} {x : Index} {n : ℕ} {w : List ℕ} {s : State} (S : Stands o m x n w s) {ps : List Point} (e : m.parameters ≡ ps) where
-  -- the rows of the groups, and room for the pairs
-  pub stands-ranked : Ranked o ps x w
-  stands-ranked = record {
-    few = S.room.few;
-    many = ap length (sym e) ∙ S.many;
-    slots = S.room.slots;
-    long = omega (arith, S.room.slots, S.room.long);
-    groups = S.groups ∙ ap (λ (p : List Point). flat (sort le_row (group_rows o p))) e;
-  }
-
   -- the active members of a group's rows
   pub active-is : {g : Run} → IsGroup x w g → (v : ℕ) → members_of w g ≡ group_of o ps v → active_of x w g ≡ active_group o m s.replaced v
   active-is {g} i v h =
@@ -48,7 +35,7 @@ module _ {o : Options} {m : Mesh} {x : Index} {n : ℕ} {w : List ℕ} {s : Stat
       ∙ ap (keep (λ u. not (mem u s.replaced))) (h ∙ ap (λ (p : List Point). group_of o p v) (sym e))
 
 -- only the parameters of the mesh count
-pub paired-mesh : {o : Options} {m : Mesh} {x : Index} {ps : List Point} {w w' : List ℕ} {r : ℕ} → m.parameters ≡ ps → (vs vs' ws ws' : List ℕ) → vs ≡ vs' → ws ≡ ws'
+pub paired-mesh : {o : Options} {m : Mesh} {x : Index} {ps : List Point} {w w' : List ℕ} {r : Option ℕ} → m.parameters ≡ ps → (vs vs' ws ws' : List ℕ) → vs ≡ vs' → ws ≡ ws'
     → Paired o (only ps) x vs ws w w' r → Paired o m x vs' ws' w w' r
 paired-mesh {o} {m} {x} {ps} e vs vs' ws ws' f g p =
     let h : partners o (only ps) vs ws ≡ partners o m vs' ws' =
@@ -56,8 +43,8 @@ paired-mesh {o} {m} {x} {ps} e vs vs' ws ws' f g p =
     let off : pair_off vs ws (partners o (only ps) vs ws) ≡ pair_off vs' ws' (partners o m vs' ws') =
     ap₂ (λ (a b : List ℕ). pair_off a b (partners o (only ps) vs ws)) f g ∙ ap (pair_off vs' ws') h in
     record {
-      count = p.count ∙ ap₂ (λ (c : Bool) (l : List Pair). cond c (length l) 0) off h;
-      pairs = λ z. p.pairs z ∙ h;
+      count = p.count ∙ ap₂ (λ (c : Bool) (l : List Pair). cond c (Some (length l)) None) off h;
+      pairs = λ k z. p.pairs k z ∙ h;
       same = p.same;
     }
 

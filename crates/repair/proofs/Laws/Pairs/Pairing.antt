@@ -2,20 +2,19 @@
 use mathlib.Core.Path.{◌≡◌, refl, sym, ap, ap₂, subst, ◌∙◌}
 use mathlib.Core.Bool.{Bool, true, false, not, cond}
 use mathlib.Core.List.{List, [], ◌∷◌, ◌++◌, append-nil, append_assoc}
-use Prim.Native.Nat.{ℕ, zero, suc, ◌+◌, ◌-◌, ◌*◌, ◌≤◌, ◌<◌}
-use native.Mathlib.Nat.{not-suc-le-zero}
+use Prim.Native.Nat.{ℕ, zero, suc, ◌+◌, ◌*◌, ◌≤◌, ◌<◌}
 use native.Mathlib.Omega.{arith}
-use borrow.Author.Tests.{ltb-true, lt-ltb, le-ltb}
+use borrow.Author.Tests.{ltb-true}
 use lib.Dec.{eqb, ltb}
 use lib.ListN.{length, take, drop, set, length-append}
 use lib.Seq.{length-take-le, drop_at}
+use Rattle.std.specs.Prelude.{Option, None, Some}
 use Rattle.geometry.specs.declared.bounds.Options.{Options}
 use Rattle.mesh.specs.declared.element.Pair.{Pair}
 use Rattle.mesh.specs.declared.star.Index.{Index}
 use Rattle.mesh.specs.Words.{word_at}
 use Rattle.mesh.specs.Complex.{mem, keep}
 use Rattle.mesh.specs.Tests.{every, nodup}
-use Rattle.mesh.specs.Element.{pair}
 use Rattle.mesh.specs.inside.Star.{written}
 use Rattle.mesh.proofs.Laws.Complex.Sets.{and-fst, and-snd}
 use Rattle.mesh.proofs.Laws.Star.Written.{length-written, written_below, written_behind, written-more, written_none, written_one}
@@ -25,7 +24,7 @@ use Rattle.repair.specs.Improve.{partner, partners, pair_off}
 use Rattle.repair.specs.inside.Layout.{flags_at, pairs_at, pairs_of, pairs_in, Same}
 use Rattle.repair.specs.inside.improve.Partners.{members, members_of, active_in, active_of, IsGroup, pair_words, seconds, paired_with, is_new, Paired}
 use Rattle.repair.proofs.Laws.Pairs.Partners.{partners-last, stopped, More, went_on, pair_off-full}
-use Rattle.repair.proofs.Laws.Pairs.Walks.{Walk, walk_start, walk_turn, walk-vertex, walk-yes, walk_no, walk_none}
+use Rattle.repair.proofs.Laws.Pairs.Walks.{end_of, rows_left, rows-all, Walk, walk_start, walk_turn, walk-vertex, walk-yes, walk_no, walk_none}
 
 -- ---- pairs as words
 
@@ -84,7 +83,7 @@ module _ (x : Index) (w₀ w : List ℕ) (before : (j : ℕ) → j < pairs_at x 
 
 -- ---- one pair
 
-module _ (o : Options) (m : Mesh) (x : Index) (w : List ℕ) (v : ℕ) (g : Run) (k u : ℕ) (e : partner o m v (active_of x w g) ≡ paired_with x.vertices v u) where
+module _ (o : Options) (m : Mesh) (x : Index) (w : List ℕ) (v : ℕ) (g : Run) (k : ℕ) where
   -- what `put_pair` gives and leaves
   abbrev Put : Bool → List ℕ → Type 0
   Put r w' = (r ≡ is_new (pairs_in x k w) (partner o m v (active_of x w g))) × (w' ≡ written w (pairs_at x + 2 * k) (pair_words (cond r (partner o m v (active_of x w g)) [])))
@@ -94,17 +93,12 @@ module _ (o : Options) (m : Mesh) (x : Index) (w : List ℕ) (v : ℕ) (g : Run)
   left_alone = sym (written_none w (pairs_at x + 2 * k))
 
   -- no partner
-  pub put-none : x.vertices ≤ u → Put false w
-  put-none h =
-      let q : partner o m v (active_of x w g) ≡ [] = e ∙ rw (le-ltb u x.vertices h) refl in
-      (sym (ap (is_new (pairs_in x k w)) q), left_alone)
+  pub put-none : partner o m v (active_of x w g) ≡ paired_with v None → Put false w
+  put-none q = (sym (ap (is_new (pairs_in x k w)) q), left_alone)
 
-  partner-is : u < x.vertices → partner o m v (active_of x w g) ≡ pair v u ∷ []
-  partner-is h = e ∙ rw (lt-ltb u x.vertices h) refl
-
-  module _ (at : ℕ) (place : at ≡ pairs_at x) (h : u < x.vertices) (b : Bool) (t : b ≡ mem u (seconds (pairs_of k (drop at w)))) where
+  module _ (u : ℕ) (partner-is : partner o m v (active_of x w g) ≡ paired_with v (Some u)) (at : ℕ) (place : at ≡ pairs_at x) (b : Bool) (t : b ≡ mem u (seconds (pairs_of k (drop at w)))) where
     new_is : not b ≡ is_new (pairs_in x k w) (partner o m v (active_of x w g))
-    new_is = ap not (t ∙ ap (λ (a : ℕ). mem u (seconds (pairs_of k (drop a w)))) place) ∙ sym (ap (is_new (pairs_in x k w)) (partner-is h))
+    new_is = ap not (t ∙ ap (λ (a : ℕ). mem u (seconds (pairs_of k (drop a w)))) place) ∙ sym (ap (is_new (pairs_in x k w)) partner-is)
 
     -- a partner that is in a pair
     pub put-old : b ≡ true → Put false w
@@ -121,28 +115,29 @@ module _ (o : Options) (m : Mesh) (x : Index) (w : List ℕ) (v : ℕ) (g : Run)
           ap not (sym z) ∙ new_is,
           q ∙ ap (λ (a : ℕ). set w₁ (a + 1) u) j ∙ written_one w₁ (i + 1) u (omega arith)
               ∙ ap (λ (a : List ℕ). written a (i + 1) (u ∷ [])) p' ∙ written-more w i (v ∷ []) (omega arith) (u ∷ [])
-              ∙ ap (λ (a : List Pair). written w i (pair_words a)) (sym (partner-is h)),
+              ∙ ap (λ (a : List Pair). written w i (pair_words a)) (sym partner-is),
         )
 
 -- ---- the loop
 
 -- what holds at its head: the active members of f that are done have partners of their own, whose pairs are written
-pub record Pairing (o : Options) (m : Mesh) (x : Index) (w₀ : List ℕ) (f g : Run) (w : List ℕ) (i left k : ℕ) : Type 0 where
-  pub walk : Walk x w₀ f i left
+pub record Pairing (o : Options) (m : Mesh) (x : Index) (w₀ : List ℕ) (f g : Run) (w : List ℕ) (i k : ℕ) : Type 0 where
+  pub walk : Walk x w₀ f i
   pub done : List ℕ
-  pub all : active_of x w₀ f ≡ done ++ keep (active_in x w₀) (members i left w₀)
+  pub all : active_of x w₀ f ≡ done ++ keep (active_in x w₀) (rows_left w₀ f i)
   pub count : k ≡ length (partners o m done (active_of x w₀ g))
   pub full : k ≡ length done
-  pub few : k + left ≤ f.size
+  pub few : f.first + k ≤ i
+  pub most : i ≤ end_of f
   pub apart : nodup (seconds (partners o m done (active_of x w₀ g))) ≡ true
   pub words : w ≡ written w₀ (pairs_at x) (pair_words (partners o m done (active_of x w₀ g)))
 
 module _ {o : Options} {m : Mesh} {x : Index} {w₀ : List ℕ} {f g : Run} (F : IsGroup x w₀ f) (G : IsGroup x w₀ g) (slots : x.slots ≡ 10 * x.vertices) (long : x.slots ≤ length w₀) where
-  pub pairing-start : Pairing o m x w₀ f g w₀ f.first f.size 0
+  pub pairing-start : Pairing o m x w₀ f g w₀ f.first 0
   unfolding partners pair_words
-  pairing-start = record { walk = walk_start F; done = []; all = refl; count = refl; full = refl; few = omega arith; apart = refl; words = sym (written_none w₀ (pairs_at x)) }
+  pairing-start = record { walk = walk_start F; done = []; all = ap (keep (active_in x w₀)) (sym (rows-all w₀ f)); count = refl; full = refl; few = omega arith; most = omega arith; apart = refl; words = sym (written_none w₀ (pairs_at x)) }
 
-  module _ {w : List ℕ} {i left k : ℕ} (q : Pairing o m x w₀ f g w i left k) where
+  module _ {w : List ℕ} {i k : ℕ} (q : Pairing o m x w₀ f g w i k) where
     abbrev ws : List ℕ
     ws = active_of x w₀ g
 
@@ -151,7 +146,7 @@ module _ {o : Options} {m : Mesh} {x : Index} {w₀ : List ℕ} {f g : Run} (F :
 
     -- the words written fit, so that all else is as it was
     room : pairs_at x + length (pair_words es) ≤ x.slots
-    room = omega (arith, length-words es, q.count, q.few, F.inside, slots)
+    room = omega (arith, length-words es, q.count, q.few, q.most, F.inside, slots)
 
     pub pairing-long : length w ≡ length w₀
     pairing-long = ap length q.words ∙ length-written w₀ (pairs_at x) (pair_words es) (omega (arith, room))
@@ -176,12 +171,9 @@ module _ {o : Options} {m : Mesh} {x : Index} {w₀ : List ℕ} {f g : Run} (F :
     pairing-pairs : pairs_in x k w ≡ es
     pairing-pairs = ap₂ (λ (n : ℕ) (u : List ℕ). pairs_of n (drop (pairs_at x) u)) q.count q.words ∙ pairs-written w₀ (pairs_at x) es (omega (arith, room))
 
-    module _ (h : 0 < left) (v : ℕ) (e : v ≡ word_at w (7 * i + 6)) where
-      pub pairing-row : i < 4096
-      pairing-row = omega (arith, F.few, F.inside, q.walk.end)
-
+    module _ (h : i < end_of f) (v : ℕ) (e : v ≡ word_at w (7 * i + 6)) where
       row : v ≡ word_at w₀ (7 * i + 6)
-      row = e ∙ before (7 * i + 6) (omega (arith, F.inside, q.walk.end))
+      row = e ∙ before (7 * i + 6) (omega (arith, F.inside))
 
       pub pairing-vertex : v < x.vertices
       pairing-vertex = subst (λ (u : ℕ). u < x.vertices) (sym row) (walk-vertex q.walk h)
@@ -190,7 +182,7 @@ module _ {o : Options} {m : Mesh} {x : Index} {w₀ : List ℕ} {f g : Run} (F :
       pairing-room = omega (arith, pairing-long, q.few, F.inside, slots, long)
 
       -- a member that is replaced
-      pub pairing-passive : active_in x w v ≡ false → Pairing o m x w₀ f g w (i + 1) (left - 1) k
+      pub pairing-passive : active_in x w v ≡ false → Pairing o m x w₀ f g w (i + 1) k
       pairing-passive a = record {
         walk = walk_turn q.walk h;
         done = q.done;
@@ -198,13 +190,14 @@ module _ {o : Options} {m : Mesh} {x : Index} {w₀ : List ℕ} {f g : Run} (F :
         count = q.count;
         full = q.full;
         few = omega (arith, q.few);
+        most = omega arith;
         apart = q.apart;
         words = q.words;
       }
 
       module _ (a : active_in x w v ≡ true) where
         -- an active member
-        next : active_of x w₀ f ≡ q.done ++ (v ∷ keep (active_in x w₀) (members (i + 1) (left - 1) w₀))
+        next : active_of x w₀ f ≡ q.done ++ (v ∷ keep (active_in x w₀) (rows_left w₀ f (i + 1)))
         next = q.all ∙ ap (λ (u : List ℕ). q.done ++ u) (walk-yes q.walk h (active_in x w₀) v row (sym (active-same x w₀ w before v pairing-vertex) ∙ a))
 
         -- the test and the write of `put_pair`
@@ -213,20 +206,20 @@ module _ {o : Options} {m : Mesh} {x : Index} {w₀ : List ℕ} {f g : Run} (F :
           test = t ∙ ap₂ (λ (a : List Pair) (b : List ℕ). is_new a (partner o m v b)) pairing-pairs pairing-active
 
           -- it has no partner of its own
-          pub pairing-stop : r ≡ false → Paired o m x (active_of x w₀ f) ws w₀ w' 0
+          pub pairing-stop : r ≡ false → Paired o m x (active_of x w₀ f) ws w₀ w' None
           unfolding pair_words
           pairing-stop z =
               let s : pair_off (active_of x w₀ f) ws (partners o m (active_of x w₀ f) ws) ≡ false =
-              ap (λ (u : List ℕ). pair_off u ws (partners o m u ws)) next ∙ stopped o m q.done v (keep (active_in x w₀) (members (i + 1) (left - 1) w₀)) ws (sym test ∙ z) in
+              ap (λ (u : List ℕ). pair_off u ws (partners o m u ws)) next ∙ stopped o m q.done v (keep (active_in x w₀) (rows_left w₀ f (i + 1))) ws (sym test ∙ z) in
               let same : w' ≡ w = p ∙ ap (λ (b : Bool). written w (pairs_at x + 2 * k) (pair_words (cond b (partner o m v (active_of x w g)) []))) z ∙ written_none w (pairs_at x + 2 * k) in
               record {
                 count = sym (rw s refl);
-                pairs = λ n. absurd (not-suc-le-zero n);
+                pairs = λ n h. absurd cc;
                 same = subst (λ (u : List ℕ). Same w₀ u (pairs_at x) x.slots) (sym same) pairing-same;
               }
 
           -- it has one
-          pub pairing-turn : r ≡ true → Pairing o m x w₀ f g w' (i + 1) (left - 1) (k + 1)
+          pub pairing-turn : r ≡ true → Pairing o m x w₀ f g w' (i + 1) (k + 1)
           pairing-turn z =
               let n : More o m q.done v ws = went_on o m q.done v ws q.apart (sym test ∙ z) in
               let d = q.done ++ (v ∷ []) in
@@ -235,10 +228,11 @@ module _ {o : Options} {m : Mesh} {x : Index} {w₀ : List ℕ} {f g : Run} (F :
               record {
                 walk = walk_turn q.walk h;
                 done = d;
-                all = next ∙ sym (append_assoc q.done (v ∷ []) (keep (active_in x w₀) (members (i + 1) (left - 1) w₀)));
+                all = next ∙ sym (append_assoc q.done (v ∷ []) (keep (active_in x w₀) (rows_left w₀ f (i + 1))));
                 count = omega (arith, n.count, q.count);
                 full = omega (arith, q.full, length-append q.done (v ∷ []));
                 few = omega (arith, q.few);
+                most = omega arith;
                 apart = n.apart;
                 words = p ∙ ap (λ (b : Bool). written w (pairs_at x + 2 * k) (pair_words (cond b (partner o m v (active_of x w g)) []))) z
                     ∙ ap₂ (λ (a : ℕ) (u : List Pair). written w a (pair_words u)) at new
@@ -247,12 +241,12 @@ module _ {o : Options} {m : Mesh} {x : Index} {w₀ : List ℕ} {f g : Run} (F :
                     ∙ ap (written w₀ (pairs_at x)) (sym (ap pair_words (partners-last o m q.done v ws) ∙ words_append es (partner o m v ws)));
               }
 
-    module _ (h : left ≤ 0) where
+    module _ (h : end_of f ≤ i) where
       -- all members are done: the number of the others decides
       over : active_of x w₀ f ≡ q.done
       over = q.all ∙ ap (λ (u : List ℕ). q.done ++ u) (walk_none q.walk (active_in x w₀) h) ∙ append-nil q.done
 
-      ended : (r : ℕ) → (b : Bool) → b ≡ eqb k (length (active_of x w g)) → r ≡ cond b k 0 → (0 < r → r ≡ k) → Paired o m x (active_of x w₀ f) ws w₀ w r
+      ended : (r : Option ℕ) → (b : Bool) → b ≡ eqb k (length (active_of x w g)) → r ≡ cond b (Some k) None → ((j : ℕ) → r ≡ Some j → j ≡ k) → Paired o m x (active_of x w₀ f) ws w₀ w r
       ended r b t e n =
           let vs = active_of x w₀ f in
           let ps : partners o m vs ws ≡ es = ap (λ (u : List ℕ). partners o m u ws) over in
@@ -261,13 +255,13 @@ module _ {o : Options} {m : Mesh} {x : Index} {w₀ : List ℕ} {f g : Run} (F :
           pair_off-full o m vs ws l (ap (λ (u : List Pair). nodup (seconds u)) ps ∙ q.apart)
           ∙ ap₂ (λ (a c : ℕ). eqb a c) (ap length over ∙ sym q.full) (ap length (sym pairing-active)) ∙ sym t in
           record {
-            count = e ∙ ap₂ (λ (c : Bool) (a : ℕ). cond c a 0) (sym off) (q.count ∙ ap length (sym ps));
-            pairs = λ p. ap (λ (a : ℕ). pairs_in x a w) (n p) ∙ pairing-pairs ∙ sym ps;
+            count = e ∙ ap₂ (λ (c : Bool) (a : ℕ). cond c (Some a) None) (sym off) (q.count ∙ ap length (sym ps));
+            pairs = λ j p. ap (λ (a : ℕ). pairs_in x a w) (n j p) ∙ pairing-pairs ∙ sym ps;
             same = pairing-same;
           }
 
-      pub pairing-done : true ≡ eqb k (length (active_of x w g)) → Paired o m x (active_of x w₀ f) ws w₀ w k
-      pairing-done t = ended k true t refl (λ p. refl)
+      pub pairing-done : true ≡ eqb k (length (active_of x w g)) → Paired o m x (active_of x w₀ f) ws w₀ w (Some k)
+      pairing-done t = ended (Some k) true t refl (λ j h. cc)
 
-      pub pairing-fewer : false ≡ eqb k (length (active_of x w g)) → Paired o m x (active_of x w₀ f) ws w₀ w 0
-      pairing-fewer t = ended 0 false t refl (λ p. absurd (not-suc-le-zero p))
+      pub pairing-fewer : false ≡ eqb k (length (active_of x w g)) → Paired o m x (active_of x w₀ f) ws w₀ w None
+      pairing-fewer t = ended None false t refl (λ j h. absurd cc)

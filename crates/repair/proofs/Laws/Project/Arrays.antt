@@ -2,14 +2,15 @@
 use Prim.Native.Nat.{ℕ, ◌+◌, ◌-◌, ◌≤◌, ◌<◌}
 use mathlib.Core.Path.{◌≡◌, sym, ap, ◌∙◌, subst}
 use mathlib.Core.Bool.{Bool, true, false, cond}
-use mathlib.Core.List.{List, []}
+use mathlib.Core.List.{List, [], ◌∷◌}
 use native.Mathlib.Omega.{arith}
 use lib.IntN.{pos}
 use lib.Ieee.{Float, nan, fin}
 use lib.ListN.{length, get_or, take, set, get_or-map}
-use lib.Seq.{get_or-take}
+use Rattle.std.specs.List.{swap}
 use Rattle.geometry.specs.declared.point.Point.{Point}
 use Rattle.geometry.specs.Float.{◌+₆₄◌, ◌*₆₄◌, total}
+use Rattle.mesh.proofs.Laws.Parts.{get_d_any}
 use Rattle.repair.specs.declared.project.field_rows.Row as row
 use Rattle.repair.specs.Project.{entry, smaller_size, pivot, exchanged, products}
 use Rattle.repair.specs.inside.project.Solve.{row_of, rows_of, Shaped, window, scaled_on, displacement}
@@ -17,6 +18,11 @@ use Rattle.repair.proofs.Laws.Project.Elimination.{pivot-turn, cleared_at, clear
 use Rattle.repair.proofs.Laws.Project.Window.{window-long, window-row, window-entry, window-set, window-exchanged, shaped-exchanged, pivoted}
 use Rattle.repair.proofs.Laws.Project.Rows.{rows_long}
 use Rattle.repair.proofs.Laws.Project.Displacement.{summed, summed-all, summed_turn, summed-end}
+
+-- the library's exchange is the definition's
+pub swap-exchanged : (m : List (List Float)) (i j : ℕ) → i < length m → j < length m → swap m i j ≡ exchanged i j m
+swap-exchanged [] i j h g = absurd (omega arith)
+swap-exchanged (d ∷ m) i j h g = λ t. set (set (d ∷ m) i (get_d_any (d ∷ m) j d [] g t)) j (get_d_any (d ∷ m) i d [] h t)
 
 -- either is below n
 pub cond_below : (b : Bool) (i j n : ℕ) → i < n → j < n → cond b i j < n
@@ -26,9 +32,9 @@ cond_below false i j n h g = g
 -- p and the gradients from row i on, each times the last entry of its row
 abbrev pub summed_point : ℕ → List (List Float) → List row.Row → Point → ℕ → Point
 summed_point n m rows p i = record {
-  x = summed (λ g. g.x) (rows_of n rows) (window n m) n p.x i;
-  y = summed (λ g. g.y) (rows_of n rows) (window n m) n p.y i;
-  z = summed (λ g. g.z) (rows_of n rows) (window n m) n p.z i;
+  x = summed (λ g. g.x) (rows_of rows) (window n m) n p.x i;
+  y = summed (λ g. g.y) (rows_of rows) (window n m) n p.y i;
+  z = summed (λ g. g.z) (rows_of rows) (window n m) n p.z i;
 }
 
 -- where a sum begins
@@ -65,24 +71,24 @@ module _ {m : List (List Float)} (s : Shaped m) (n : ℕ) (few : n ≤ 8) where
   clear-last k p i h = clear-end k (take (n + 1) p) (window n m) i (omega (arith, corner-long))
 
   -- in one direction, the gradient of row i times the last entry of the matrix's row i is added
-  sum-next : (part : Point → Float) (rows : List row.Row) (i : ℕ) (z : row.Row) → length rows ≡ 8 → i < n → (x : Float) {y : Float}
+  sum-next : (part : Point → Float) (rows : List row.Row) (i : ℕ) (z : row.Row) → length rows ≡ n → i < n → (x : Float) {y : Float}
       → y ≡ x +₆₄ part (get_or rows i z).gradient *₆₄ get_or (get_or m i []) n nan
-      → summed part (rows_of n rows) (window n m) n y (i + 1) ≡ summed part (rows_of n rows) (window n m) n x i
+      → summed part (rows_of rows) (window n m) n y (i + 1) ≡ summed part (rows_of rows) (window n m) n x i
   sum-next part rows i z l h x {y} e =
-      ap (λ (t : Float). summed part (rows_of n rows) (window n m) n t (i + 1))
-      (e ∙ (λ t. x +₆₄ part ((ap row_of (sym (get_or-take n rows i z h)) ∙ sym (get_or-map row_of (take n rows) i z)) t).gradient *₆₄ corner-entry i n h (omega arith) t))
-      ∙ summed_turn part (rows_of n rows) (window n m) n x i (row_of z) (omega (arith, rows_long rows n l few)) (omega (arith, corner-long))
+      ap (λ (t : Float). summed part (rows_of rows) (window n m) n t (i + 1))
+      (e ∙ (λ t. x +₆₄ part (sym (get_or-map row_of rows i z) t).gradient *₆₄ corner-entry i n h (omega arith) t))
+      ∙ summed_turn part (rows_of rows) (window n m) n x i (row_of z) (omega (arith, rows_long rows, l)) (omega (arith, corner-long))
 
   -- all gradients are to be added
-  pub point-all : (rows : List row.Row) → length rows ≡ 8 → summed_point n m rows (record { x = minus-zero; y = minus-zero; z = minus-zero }) 0 ≡ displacement (rows_of n rows) (window n m)
+  pub point-all : (rows : List row.Row) → length rows ≡ n → summed_point n m rows (record { x = minus-zero; y = minus-zero; z = minus-zero }) 0 ≡ displacement (rows_of rows) (window n m)
   point-all rows l =
       λ t. record { x = all (λ g. g.x) t; y = all (λ g. g.y) t; z = all (λ g. g.z) t }
     where
-      all : (part : Point → Float) → summed part (rows_of n rows) (window n m) n minus-zero 0 ≡ total (products part (rows_of n rows) (window n m) (length (rows_of n rows)))
-      all part = summed-all part (rows_of n rows) (window n m) n (rows_long rows n l few)
+      all : (part : Point → Float) → summed part (rows_of rows) (window n m) n minus-zero 0 ≡ total (products part (rows_of rows) (window n m) (length (rows_of rows)))
+      all part = summed-all part (rows_of rows) (window n m) n (rows_long rows ∙ l)
 
   -- that of row i is added
-  pub point-next : (rows : List row.Row) (i : ℕ) (z : row.Row) → length rows ≡ 8 → i < n → (p : Point) {q : Point}
+  pub point-next : (rows : List row.Row) (i : ℕ) (z : row.Row) → length rows ≡ n → i < n → (p : Point) {q : Point}
       → q ≡ scaled_on p (get_or rows i z).gradient (get_or (get_or m i []) n nan) → summed_point n m rows q (i + 1) ≡ summed_point n m rows p i
   point-next rows i z l h p e =
       λ t. record {
@@ -92,12 +98,12 @@ module _ {m : List (List Float)} (s : Shaped m) (n : ℕ) (few : n ≤ 8) where
       }
 
   -- none is left to add
-  pub point-last : (rows : List row.Row) (i : ℕ) → length rows ≡ 8 → n ≤ i → (p : Point) → p ≡ summed_point n m rows p i
+  pub point-last : (rows : List row.Row) (i : ℕ) → length rows ≡ n → n ≤ i → (p : Point) → p ≡ summed_point n m rows p i
   point-last rows i l h p =
       λ t. record { x = last (λ g. g.x) p.x t; y = last (λ g. g.y) p.y t; z = last (λ g. g.z) p.z t }
     where
-      last : (part : Point → Float) (x : Float) → x ≡ summed part (rows_of n rows) (window n m) n x i
-      last part x = sym (summed-end part (rows_of n rows) (window n m) n x i (omega (arith, rows_long rows n l few)))
+      last : (part : Point → Float) (x : Float) → x ≡ summed part (rows_of rows) (window n m) n x i
+      last part x = sym (summed-end part (rows_of rows) (window n m) n x i (omega (arith, rows_long rows, l)))
 
   -- the pivot of column k is brought into place
   module _ (k best : ℕ) {m₁ : List (List Float)} (h : k < n) (p : (best < n) × (best ≡ pivot (window n m) k k (k + 1) (n - (k + 1)))) (e : m₁ ≡ exchanged k best m) where

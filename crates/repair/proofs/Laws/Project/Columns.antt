@@ -3,7 +3,7 @@ use Prim.Native.Nat.{ℕ, ◌+◌, ◌-◌, ◌≤◌, ◌<◌}
 use mathlib.Core.Path.{◌≡◌, ap, ◌∙◌}
 use mathlib.Core.Bool.{Bool, true, false, not}
 use mathlib.Core.List.{List, []}
-use mathlib.Core.Option.{Option, none}
+use Rattle.std.specs.Prelude.{Option, None}
 use native.Mathlib.Omega.{arith}
 use lib.Ieee.{Float, nan}
 use lib.ListN.{get_or}
@@ -27,5 +27,5 @@ module _ {m : List (List Float)} (s : Shaped m) (n : ℕ) (few : n ≤ 8) (k bes
   column-turn {b} {w} {v} t f q l = solved-turn n k (window n m) h (holds_by (tested t) f) (q ∙ ap (solved_at k) (exchange-corner s n few k best h p e)) l
 
   -- it does not
-  pub column-fail : {b : Bool} {v : Option (List (List Float))} → b ≡ serves (get_or (get_or m₁ k []) k nan) → not b ≡ true → solved k (n - k) (window n m) ≡ v → none ≡ v
+  pub column-fail : {b : Bool} {v : Option (List (List Float))} → b ≡ serves (get_or (get_or m₁ k []) k nan) → not b ≡ true → solved k (n - k) (window n m) ≡ v → None ≡ v
   column-fail {b} {v} t f l = solved-fail n k (window n m) h (fails_by (tested t) f) l

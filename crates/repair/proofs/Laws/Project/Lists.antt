@@ -1,11 +1,40 @@
 -- Lists that a loop fills or changes place by place. Assumes nothing.
-use Prim.Native.Nat.{ℕ, zero, suc, ◌+◌, ◌<◌}
+use Prim.Native.Nat.{ℕ, zero, suc, ◌+◌, ◌<◌, ◌≤◌}
 use mathlib.Core.Path.{◌≡◌, refl, sym, ap, ◌∙◌}
+use mathlib.Core.Bool.{Bool, true, ◌&&◌, ◌||◌}
 use mathlib.Core.List.{List, [], ◌∷◌, ◌++◌, map, append_assoc}
 use native.Mathlib.Numerals.{add-one}
 use native.Mathlib.Omega.{arith}
-use lib.ListN.{length, get_or, take, drop, set}
-use lib.Seq.{take-suc, take-suc-set, drop-set-lt}
+use lib.ListN.{length, get_or, take, drop, set, drop_of_length-le}
+use lib.Seq.{drop-cons, take-suc, take-suc-set, drop-set-lt}
+use Rattle.std.specs.List.{list_all, list_any}
+use Rattle.mesh.specs.Tests.{every, any}
+
+-- ---- tests of all elements
+
+-- the library's tests of a list are those of the definitions
+pub all-every : {A : Type 0} (p : A → Bool) (xs : List A) → list_all p xs ≡ every p xs
+all-every p [] = refl
+all-every p (x ∷ xs) = ap (λ (b : Bool). p x && b) (all-every p xs)
+
+pub any-any : {A : Type 0} (p : A → Bool) (xs : List A) → list_any p xs ≡ any p xs
+any-any p [] = refl
+any-any p (x ∷ xs) = ap (λ (b : Bool). p x || b) (any-any p xs)
+
+-- a loop that tests one element after the other: what is left from i on is the whole
+module _ {A : Type 0} (p : A → Bool) (xs : List A) (i : ℕ) where
+  every_next : (z : A) → i < length xs → every p (drop i xs) ≡ (p (get_or xs i z) && every p (drop (i + 1) xs))
+  every_next z h = ap (every p) (drop-cons xs i z h) ∙ ap (λ (k : ℕ). p (get_or xs i z) && every p (drop k xs)) (sym (add-one i))
+
+  -- the element i passes
+  pub every-turn : (z : A) → i < length xs → p (get_or xs i z) ≡ true → every p (drop i xs) ≡ every p xs → every p (drop (i + 1) xs) ≡ every p xs
+  every-turn z h t e = sym (every_next z h ∙ ap (λ (b : Bool). b && every p (drop (i + 1) xs)) t) ∙ e
+
+  -- none is left
+  pub every-end : length xs ≤ i → every p (drop i xs) ≡ every p xs → every p xs ≡ true
+  every-end h e = sym e ∙ ap (every p) (drop_of_length-le xs {i = i} h)
+
+-- ---- places
 
 module _ {A B : Type 0} (f : A → B) where
   -- an element changed, then mapped

@@ -1,12 +1,11 @@
 -- A step of `project_candidate` test by test, and the steps one after the other. Assumes nothing.
-use Prim.Native.Nat.{ℕ, zero, suc, ◌-◌, ◌≤◌, ◌<◌}
+use Prim.Native.Nat.{ℕ, zero, suc, ◌+◌, ◌-◌, ◌≤◌, ◌<◌}
 use mathlib.Core.Path.{◌≡◌, refl, sym, ap, ◌∙◌}
 use mathlib.Core.Bool.{Bool, true, false, not, cond}
 use mathlib.Core.List.{List, map}
 use native.Mathlib.Omega.{arith}
 use lib.Ieee.{Float, eq, lt}
-use lib.ListN.{length, take}
-use lib.Seq.{take_all}
+use lib.ListN.{length}
 use borrow.Author.Tests.{not-true, not-false}
 use Rattle.geometry.specs.declared.bounds.Bounds.{Bounds}
 use Rattle.geometry.specs.declared.point.Point.{Point}
@@ -16,10 +15,8 @@ use Rattle.geometry.specs.Literals.{e_12}
 use Rattle.geometry.specs.Point.{difference}
 use Rattle.geometry.specs.Field.{value}
 use Rattle.mesh.specs.Tests.{every}
-use Rattle.mesh.proofs.Laws.Boundary.Faces.{every_map}
-use Rattle.repair.specs.declared.project.field_rows.Row as row
-use Rattle.repair.specs.declared.project.Projected.{Projected}
-use Rattle.repair.specs.declared.project.Projected.TheVariants.{Found, Nothing}
+use Rattle.repair.specs.Project.{Projected}
+use Rattle.std.specs.Prelude.{Some, None}
 use Rattle.repair.specs.Project.{Locked, locked_of, held, finite_point, extent, Row, usable, normalised, freed, matrix, solved, Step, ended, onward, onward_from, step, steps}
 use Rattle.repair.specs.inside.project.Solve.{outcome, displacement}
 
@@ -31,23 +28,18 @@ module _ (b : Bounds) (o : Point) (fs : List Field) (p : Point) (rs : List Row) 
   answer = ap (onward_from b o fs p rs) (ends ∙ (λ i. solved 0 (sym long i) (made i)))
 
   -- there is no solution
-  pub onward-none : not found ≡ true → ended Nothing ≡ onward_from b o fs p rs (solved 0 (length rs) (matrix rs))
+  pub onward-none : not found ≡ true → ended None ≡ onward_from b o fs p rs (solved 0 (length rs) (matrix rs))
   onward-none f = ap (λ (t : Bool). onward_from b o fs p rs (outcome t w₁)) (sym (not-true found f)) ∙ answer
 
   -- there is one
   pub onward-some : not found ≡ false → {l : Locked} {d e q : Point} → l ≡ locked_of b o → d ≡ displacement rs w₁ → e ≡ difference p d → q ≡ held l p e
-      → {t : Bool} → t ≡ finite_point q → cond t (onward q) (ended Nothing) ≡ onward_from b o fs p rs (solved 0 (length rs) (matrix rs))
+      → {t : Bool} → t ≡ finite_point q → cond t (onward q) (ended None) ≡ onward_from b o fs p rs (solved 0 (length rs) (matrix rs))
   onward-some f {l} {d} {e} {q} lk ds es qs {t} ts =
-      ap (λ (z : Bool). cond z (onward q) (ended Nothing)) ts
-      ∙ ap (λ (z : Point). cond (finite_point z) (onward z) (ended Nothing)) (qs ∙ (λ i. held (lk i) p ((es ∙ ap (difference p) ds) i)))
+      ap (λ (z : Bool). cond z (onward q) (ended None)) ts
+      ∙ ap (λ (z : Point). cond (finite_point z) (onward z) (ended None)) (qs ∙ (λ i. held (lk i) p ((es ∙ ap (difference p) ds) i)))
       ∙ ap (λ (z : Bool). onward_from b o fs p rs (outcome z w₁)) (sym (not-false found f)) ∙ answer
 
 -- ---- a step
-
--- the marks of the rows are those of the fields
-pub usable_same : (fs : List Field) (p : Point) (rows : List row.Row) {t : Bool} → map (λ s. s.usable) rows ≡ map (usable p) fs → t ≡ every (λ s. s.usable) rows → t ≡ every (usable p) fs
-usable_same fs p rows {t} e h =
-    h ∙ sym (every_map (λ s. s.usable) (λ (z : Bool). z) rows) ∙ ap (every (λ (z : Bool). z)) e ∙ every_map (usable p) (λ (z : Bool). z) fs
 
 module _ (b : Bounds) (o : Point) (fs : List Field) (p : Point) where
   abbrev pub zeroed : Bool
@@ -70,17 +62,17 @@ module _ (b : Bounds) (o : Point) (fs : List Field) (p : Point) where
       r ∙ ap (λ (z : List Row). onward_from b o fs p z (solved 0 (length z) (matrix z))) (fr ∙ (λ i. map (freed (ls i)) (rs i)))
 
   -- all values are 0
-  pub step-zero : zeroed ≡ true → ended (Found p) ≡ step b o fs p
+  pub step-zero : zeroed ≡ true → ended (Some p) ≡ step b o fs p
   unfolding step
   step-zero z = rw z
 
   -- a field is not usable
-  pub step-unusable : zeroed ≡ false → every (usable p) fs ≡ false → ended Nothing ≡ step b o fs p
+  pub step-unusable : zeroed ≡ false → every (usable p) fs ≡ false → ended None ≡ step b o fs p
   unfolding step
   step-unusable z u = rw (z, u)
 
   -- all values are small
-  pub step-near : zeroed ≡ false → every (usable p) fs ≡ true → near ≡ true → ended (Found p) ≡ step b o fs p
+  pub step-near : zeroed ≡ false → every (usable p) fs ≡ true → near ≡ true → ended (Some p) ≡ step b o fs p
   unfolding step
   step-near z u a = rw (z, u, a)
 
@@ -106,15 +98,13 @@ module _ (b : Bounds) (o : Point) (fs : List Field) where
   pub steps-end : (left : ℕ) (p : Point) {r v : Projected} → 0 < left → ended r ≡ step b o fs p → steps b o fs left (onward p) ≡ v → r ≡ v
   steps-end left p {r} {v} h e l = sym (steps-ended (left - 1) r) ∙ ap (steps b o fs (left - 1)) e ∙ sym (steps_next left p h) ∙ l
 
-  -- the step hands on a point
-  pub steps-turn : (left : ℕ) (p : Point) {q : Point} {v : Projected} → 0 < left → onward q ≡ step b o fs p → steps b o fs left (onward p) ≡ v → steps b o fs (left - 1) (onward q) ≡ v
-  steps-turn left p {q} {v} h e l = ap (steps b o fs (left - 1)) e ∙ sym (steps_next left p h) ∙ l
+  -- the step i of n hands on a point
+  pub steps-turn : (n i : ℕ) (p : Point) {q : Point} {v : Projected} → i < n → onward q ≡ step b o fs p → steps b o fs (n - i) (onward p) ≡ v → steps b o fs (n - (i + 1)) (onward q) ≡ v
+  steps-turn n i p {q} {v} h e l =
+      let k : n - (i + 1) ≡ (n - i) - 1 = omega arith in
+      ap (λ (t : ℕ). steps b o fs t (onward q)) k ∙ ap (steps b o fs ((n - i) - 1)) e ∙ sym (steps_next (n - i) p (omega arith)) ∙ l
 
   -- none is left
-  pub steps-none : (left : ℕ) (p : Point) {v : Projected} → left ≤ 0 → steps b o fs left (onward p) ≡ v → Nothing ≡ v
+  pub steps-none : (left : ℕ) (p : Point) {v : Projected} → left ≤ 0 → steps b o fs left (onward p) ≡ v → None ≡ v
   unfolding steps
   steps-none left p {v} h l = let e : left ≡ 0 = omega arith in sym (ap (λ (t : ℕ). steps b o fs t (onward p)) e) ∙ l
-
--- all fields of 8 count
-pub all-used : (n : ℕ) (fs : List Field) → 8 ≤ n → length fs ≡ 8 → take 8 fs ≡ take n fs
-all-used n fs h e = take_all 8 fs (omega arith) ∙ sym (take_all n fs (omega arith))

@@ -5,7 +5,7 @@ use mathlib.Core.Path.{◌≡◌, sym, ap, ◌∙◌}
 use mathlib.Core.Logic.{◌≢◌, ◌⊎◌, inl, inr}
 use mathlib.Core.Bool.{Bool, true, false, not, cond, ◌&&◌}
 use mathlib.Core.List.{List, [], map}
-use mathlib.Core.Option.{Option, none, some}
+use Rattle.std.specs.Prelude.{Option, None, Some}
 use native.Mathlib.Omega.{arith}
 use lib.Dec.{eqb}
 use lib.Ieee.{Float, lt}
@@ -87,7 +87,7 @@ module _ (n k : ℕ) (w : List (List Float)) (h : k < n) where
   abbrev pub pivoted : List (List Float)
   pivoted = exchanged k (pivot w k k (k + 1) (n - (k + 1))) w
 
-  solved-at : solved k (n - k) w ≡ cond (serves (entry pivoted k k)) (solved (k + 1) (n - (k + 1)) (solved_at k pivoted)) none
+  solved-at : solved k (n - k) w ≡ cond (serves (entry pivoted k k)) (solved (k + 1) (n - (k + 1)) (solved_at k pivoted)) None
   unfolding solved
   solved-at = let e : n - k ≡ suc (n - (k + 1)) = omega arith in rw e
 
@@ -96,13 +96,13 @@ module _ (n k : ℕ) (w : List (List Float)) (h : k < n) where
       → solved k (n - k) w ≡ v → solved (k + 1) (n - (k + 1)) w₂ ≡ v
   solved-turn {v} {w₂} t e l =
       ap (solved (k + 1) (n - (k + 1))) e
-      ∙ sym (solved-at ∙ ap (λ (b : Bool). cond b (solved (k + 1) (n - (k + 1)) (solved_at k pivoted)) none) t) ∙ l
+      ∙ sym (solved-at ∙ ap (λ (b : Bool). cond b (solved (k + 1) (n - (k + 1)) (solved_at k pivoted)) None) t) ∙ l
 
   -- it does not
-  pub solved-fail : {v : Option (List (List Float))} → serves (entry pivoted k k) ≡ false → solved k (n - k) w ≡ v → none ≡ v
-  solved-fail {v} t l = sym (solved-at ∙ ap (λ (b : Bool). cond b (solved (k + 1) (n - (k + 1)) (solved_at k pivoted)) none) t) ∙ l
+  pub solved-fail : {v : Option (List (List Float))} → serves (entry pivoted k k) ≡ false → solved k (n - k) w ≡ v → None ≡ v
+  solved-fail {v} t l = sym (solved-at ∙ ap (λ (b : Bool). cond b (solved (k + 1) (n - (k + 1)) (solved_at k pivoted)) None) t) ∙ l
 
 -- none is left
-pub solved-end : (n k : ℕ) (w : List (List Float)) {v : Option (List (List Float))} → n ≤ k → solved k (n - k) w ≡ v → some w ≡ v
+pub solved-end : (n k : ℕ) (w : List (List Float)) {v : Option (List (List Float))} → n ≤ k → solved k (n - k) w ≡ v → Some w ≡ v
 unfolding solved
 solved-end n k w {v} h l = let e : n - k ≡ 0 = omega arith in sym (rw e) ∙ l

@@ -26,8 +26,8 @@ use Rattle.mesh.specs.Intake.{well_numbered, given_of, intake}
 use Rattle.mesh.specs.Measure.{measure, lowest_of}
 use Rattle.mesh.proofs.Laws.Intake.Reads.{length-tets, length-points, elements-front, triples-front}
 use Rattle.mesh.proofs.Laws.Intake.Table.{zeros-again}
-use Rattle.repair.specs.declared.answer.Answer.{Answer}
-use Rattle.repair.specs.declared.answer.Answer.TheVariants.{Done, Refused}
+use Rattle.repair.specs.Step.{Answer}
+use Rattle.repair.specs.Step.{Done, Refused}
 use Rattle.repair.specs.Mesh.{Mesh, made, refused}
 use Rattle.repair.specs.Smooth as Smooth
 use Rattle.repair.specs.Smooth.{about_group, best_for, taken, smooth_group, smooth_groups}
@@ -37,6 +37,11 @@ use Rattle.repair.specs.inside.smooth.Site.{state_of, Turned, mesh_read, mesh_fo
 use Rattle.repair.proofs.Laws.Flip.Keys.{length-triples}
 use Rattle.repair.proofs.Laws.Improve.Intake.{Passed, intake-passed}
 use Rattle.repair.proofs.Laws.Lengths.{LongEnough, long-enough}
+
+-- the same fields and regions by other names
+pub turned-with : (o : Options) (m : Mesh) (s : Smooth.State) (g : List (List ℕ)) (nv : ℕ) {F F' : List Field} {R R' : Option (List ℕ)} {P Q P' Q' : List Float} {k : ℕ}
+    → F ≡ F' → R ≡ R' → Turned nv (smooth_groups o F R m s g) P Q P' Q' k → Turned nv (smooth_groups o F' R' m s g) P Q P' Q' k
+turned-with o m s g nv {F} {F'} {R} {R'} {P} {Q} {P'} {Q'} {k} e f t = subst (λ u. Turned nv u P Q P' Q' k) (λ i. smooth_groups o (e i) (f i) m s g) t
 
 -- ---- buffers and their values
 

@@ -2,7 +2,7 @@
 use mathlib.Core.Path.{◌≡◌, refl, sym, ap, ap₂, subst, subst₂, ◌∙◌}
 use mathlib.Core.Bool.{true, false, cond}
 use mathlib.Core.List.{List, ◌∷◌, ◌++◌, map}
-use mathlib.Core.Option.{Option, none, some}
+use mathlib.Core.Option.{Option}
 use Prim.Native.Nat.{ℕ, zero, suc, ◌+◌, ◌-◌, ◌<◌}
 use native.Mathlib.Omega.{arith}
 use borrow.Author.Tests.{ltb-true}
@@ -29,6 +29,8 @@ use Rattle.repair.specs.declared.smooth.choose.Best as Found
 use Rattle.repair.specs.declared.smooth.choose.Start.{Start}
 use Rattle.repair.specs.Smooth.{State, Best, chosen, neighbours, mean_candidates, step_candidates, move_to, best_of, about_group, best_for, taken, smooth_group}
 use Rattle.repair.specs.inside.Layout.{slots_in}
+use Rattle.repair.specs.inside.smooth.Candidates.{plain}
+use Rattle.std.specs.Prelude.{Option as Maybe, Some, None}
 use Rattle.repair.specs.inside.smooth.Site.{members, about, InRange, state_of, Placed, new_parameters, new_point, Turned, best_in, none_yet, start_list, SameTo, Ready, Slots, Rows, Listed, Sited, Started, mesh_for}
 use Rattle.repair.proofs.Laws.Site.Best.{start-candidates, best-moved}
 use Rattle.repair.proofs.Laws.Site.Work.{same-less, ready-kept, slots_kept, about-kept, group-same, group-kept}
@@ -64,6 +66,11 @@ listed-range x w w' i k s r g l =
     record { rows = omega (arith, h, m, p, q); list = omega (arith, a, b, c, d, f, h, e, n, u) }
 
 -- ---- the best candidate
+
+-- a value that is no `Some`
+pub none_of : (q : Maybe Point) → ((p : Point) → q ≡ Some p → ⊥) → q ≡ None
+none_of None h = refl
+none_of (Some p) h = absurd (h p refl)
 
 -- the same candidates for the same group
 same-best : (o : Options) (F : List Field) (R : Option (List ℕ)) (ts ts' : List Tet) (s s' : State) (g g' : List ℕ) (p p' : Point) (a a' : List Field) (b b' : Best) (c c' : List Point)
@@ -150,25 +157,25 @@ module _ (o : Options) (F : List Field) (R : Option (List ℕ)) (x : Index) (mas
         (best-moved o F R (about_group (tets x.room els) (members w i k)) x.vertices P Q moved (members w i k) _ _ _ _)
 
     pub turn-none : (b : Found.Best) → lt lowest_here fifteen_hundredths ≡ true
-        → best_in b ≡ best_for o F R (mesh_for x masks els) (state_of x.vertices P Q 0) (word_at w i) (members w i k) → b.found ≡ false
+        → best_in b ≡ best_for o F R (mesh_for x masks els) (state_of x.vertices P Q 0) (word_at w i) (members w i k) → b.point ≡ None
         → Turned x.vertices after P Q P Q moved
     turn-none b h e f = record {
       state = sym (turn-taken h ∙ ap (λ (q : Best). taken o F R (mesh_for x masks els) before (members w i k) q.found) (sym e)
-          ∙ ap (λ t. taken o F R (mesh_for x masks els) before (members w i k) (cond t (some b.point) none)) f);
+          ∙ ap (λ q. taken o F R (mesh_for x masks els) before (members w i k) (plain q)) f);
       parameters = refl;
       points = refl;
       long = (refl, refl);
     }
 
-    pub turn_moved : (b : Found.Best) (P' Q' : List Float) (m : ℕ) → lt lowest_here fifteen_hundredths ≡ true
-        → best_in b ≡ best_for o F R (mesh_for x masks els) (state_of x.vertices P Q 0) (word_at w i) (members w i k) → b.found ≡ true
-        → Placed x.vertices (new_parameters o x.vertices P b.point) (members w i k) P P' → Placed x.vertices (new_point o x.vertices P b.point) (members w i k) Q Q'
+    pub turn_moved : (b : Found.Best) (t : Point) (P' Q' : List Float) (m : ℕ) → lt lowest_here fifteen_hundredths ≡ true
+        → best_in b ≡ best_for o F R (mesh_for x masks els) (state_of x.vertices P Q 0) (word_at w i) (members w i k) → b.point ≡ Some t
+        → Placed x.vertices (new_parameters o x.vertices P t) (members w i k) P P' → Placed x.vertices (new_point o x.vertices P t) (members w i k) Q Q'
         → m ≡ moved + k → Turned x.vertices after P Q P' Q' m
     unfolding move_to
-    turn_moved b P' Q' m h e f p q n = record {
+    turn_moved b t P' Q' m h e f p q n = record {
       state = (λ j. record { parameters = p.points j; points = q.points j; moved = (n ∙ ap (λ l. moved + l) (sym (length-members w i k))) j })
           ∙ sym (turn-taken h ∙ ap (λ (q : Best). taken o F R (mesh_for x masks els) before (members w i k) q.found) (sym e)
-          ∙ ap (λ t. taken o F R (mesh_for x masks els) before (members w i k) (cond t (some b.point) none)) f);
+          ∙ ap (λ q. taken o F R (mesh_for x masks els) before (members w i k) (plain q)) f);
       parameters = p.rest;
       points = q.rest;
       long = (p.long, q.long);

@@ -26,8 +26,8 @@ use Rattle.mesh.specs.Intake.{sized_point, in_box}
 use Rattle.mesh.specs.Measure.{measure, determinant_of, score_of, lowest_of}
 use Rattle.mesh.proofs.Laws.Complex.Sets.{split, and-fst}
 use Rattle.mesh.proofs.Laws.Link.Members.{kept-elim, kept-intro, every-elim}
-use Rattle.repair.specs.declared.project.Projected.{Projected}
-use Rattle.repair.specs.declared.project.Projected.TheVariants.{Found, Nothing}
+use Rattle.repair.specs.Project.{Projected}
+use Rattle.std.specs.Prelude.{Some, None}
 use Rattle.repair.specs.Mesh.{Mesh, has}
 use Rattle.repair.specs.Project.{project}
 use Rattle.repair.specs.Wholeness.{Exact}
@@ -130,8 +130,8 @@ module _ (o : Options) (low : sized_point o.bounds.lo ≡ true) (high : sized_po
 
   module _ (fields : List Field) (regions : Option (List ℕ)) (origin : Point) (active : List Field) where
     tried-good : (best : Best) → Good best → (r : Projected) → Good (tried o fields regions about s g origin active best r)
-    tried-good best b Nothing = b
-    tried-good best b (Found p) = go (allowed o fields regions origin active p) refl
+    tried-good best b None = b
+    tried-good best b (Some p) = go (allowed o fields regions origin active p) refl
       where
         go : (x : Bool) → allowed o fields regions origin active p ≡ x → Good (cond x (better about (move_to o s g p).points p best) best)
         go false h = b

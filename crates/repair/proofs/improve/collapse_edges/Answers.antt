@@ -1,5 +1,4 @@
 -- `repair::improve::collapse_edges` meets its contract: its calls in turn, by the laws of Laws/Passed. Assumes nothing.
-use mathlib.Core.Path.{◌∙◌}
 use Rattle.repair.proofs.Laws.Passed.{begun-ready, begins, rounded, collapsed}
 use Rattle.repair.proofs.improve.collapse_edges.Goals as goal
 
@@ -10,12 +9,9 @@ begin-requires c =
     let h = begins c.args.sizes c.args.elements.now c.layout-x.result c.layout-x.ensures.0 r.room _ r f.slots f.numbered in
     record { room = h.0; work_value = f.zeros; room_in_bounds = (h.1, h.2) }
 
-pub rounds-count-requires : goal.rounds-count-requires
-rounds-count-requires c =
+pub rounds-requires : goal.rounds-requires
+rounds-requires c =
     (begun-ready c.args.o c.layout-x.result c.begin.new.work c.args.elements.now c.args.parameters.now c.args.points.now c.args.masks.now c.begin.ensures, c.requires.passes)
-
-pub shape_of-work : goal.shape_of-work
-shape_of-work c = c.live_elements-k.auto.s ∙ c.rounds-count.auto.work ∙ c.begin.auto.work
 
 pub returns : goal.returns
 returns c =
@@ -23,7 +19,7 @@ returns c =
     let x = c.layout-x.result in
     let many = c.layout-x.ensures.0 in
     let all = (c.layout-x.ensures.1 _ c.requires.long).room in
-    let l = c.live_elements-k in
+    let l = c.live_elements in
     λ m v.
-    let g = rounded a.sizes a.elements.now x many all a.o m a.parameters.now a.points.now a.masks.now v c.begin.new.work c.rounds-count.new.work c.rounds-count.result c.begin.ensures c.rounds-count.ensures in
-    collapsed a.sizes a.elements.now x many all a.o m _ c.rounds-count.new.work l.new.s g.0 l.result l.ensures.0 l.ensures.1 c.rounds-count.result g.1
+    let g = rounded a.sizes a.elements.now x many all a.o m a.parameters.now a.points.now a.masks.now v c.begin.new.work c.rounds.new.work c.rounds.result c.begin.ensures c.rounds.ensures in
+    collapsed a.sizes a.elements.now x many all a.o m _ c.rounds.new.work l.new.s g.0 l.result l.ensures.0 l.ensures.1 c.rounds.result g.1

@@ -1,5 +1,6 @@
 -- `repair::improve::rounds` meets its contract. Assumes nothing.
 use mathlib.Core.Path.{◌≡◌}
+use Prim.Native.Nat.{◌-◌}
 use lib.ListN.{length}
 use Rattle.geometry.specs.Float.{◌*₆₄◌}
 use Rattle.geometry.specs.Literals.{three_quarters}
@@ -7,9 +8,6 @@ use Rattle.geometry.specs.Bounds.{spacing}
 use Rattle.repair.proofs.Laws.Rounds.{AtRound}
 use Rattle.repair.proofs.improve.rounds.Given as goal
 
-abbrev pub invariant-loop-left : goal.invariant-loop-left
-invariant-loop-left l =
-    AtRound l.o l.x l.x.room l.initial.work l.parameters l.points l.masks l.work l.replaced l.left × (l.limit ≡ three_quarters *₆₄ spacing l.o) × (length l.work ≡ length l.initial.work)
-
-abbrev pub decreases-loop-left : goal.decreases-loop-left
-decreases-loop-left l = l.left
+abbrev pub invariant-loop-made : goal.invariant-loop-made
+invariant-loop-made l =
+    AtRound l.given.options l.given.index l.given.index.room l.initial.work l.given.parameters.now l.given.points.now l.given.masks.now l.work l.replaced (l.given.options.passes - l._made) × (l.limit ≡ three_quarters *₆₄ spacing l.given.options) × (length l.work ≡ length l.initial.work)

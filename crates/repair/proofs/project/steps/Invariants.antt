@@ -1,6 +1,5 @@
 -- `project::steps` meets its contract. The invariant: the steps left, from here on, give what all 12 give. Assumes nothing.
-use mathlib.Core.Path.{◌≡◌}
-use lib.ListN.{take}
+use Rattle.std.proofs.Common.{◌≡◌, ◌-◌}
 use Rattle.geometry.specs.declared.bounds.Bounds.{Bounds}
 use Rattle.geometry.specs.declared.point.Point.{Point}
 use Rattle.geometry.specs.Float.{◌*₆₄◌}
@@ -9,8 +8,5 @@ use Rattle.repair.specs.Project.{locked_of, extent, onward, steps}
 use Rattle.repair.specs.inside.project.Solve.{locks}
 use Rattle.repair.proofs.project.steps.Given as goal
 
-abbrev pub invariant-loop-left : goal.invariant-loop-left
-invariant-loop-left l = (b : Bounds) (o : Point) → locks l.l ≡ locked_of b o → l.tolerance ≡ e_12 *₆₄ extent b → steps b o (take l.n l.active) l.left (onward l.at) ≡ steps b o (take l.n l.active) 12 (onward l.initial.at)
-
-abbrev pub decreases-loop-left : goal.decreases-loop-left
-decreases-loop-left l = l.left
+abbrev pub invariant-loop : goal.invariant-loop
+invariant-loop l = (b : Bounds) (o : Point) → locks l.l ≡ locked_of b o → l.tolerance ≡ e_12 *₆₄ extent b → steps b o l.active (12 - l.counter) (onward l.at) ≡ steps b o l.active 12 (onward l.initial.at)

@@ -1,9 +1,12 @@
 -- `repair::quality::counted` meets its contract. Assumes nothing.
-use Rattle.repair.proofs.Laws.Gain.Tallies.{counted-yes, counted-no}
+use mathlib.Core.Path.{refl, sym, ◌∙◌}
+use Rattle.repair.specs.inside.Quality.{counted}
 use Rattle.repair.proofs.quality.counted.Goals as goal
 
 pub returns-then-is_bad : goal.returns-then-is_bad
-returns-then-is_bad c = counted-yes c.args.r c.args.s _ _ c.smaller-low.ensures c.is_bad.ensures c.if-is_bad.true
+unfolding counted
+returns-then-is_bad c = rw (sym c.is_bad.ensures ∙ c.if-is_bad.true, c.smaller.ensures) refl
 
-pub returns : goal.returns
-returns c = counted-no c.args.r c.args.s _ _ c.smaller-low.ensures c.is_bad.ensures c.if-is_bad.false
+pub returns-else-is_bad : goal.returns-else-is_bad
+unfolding counted
+returns-else-is_bad c = rw (sym c.is_bad.ensures ∙ c.if-is_bad.false, c.smaller.ensures) refl

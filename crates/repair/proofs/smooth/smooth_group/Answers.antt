@@ -2,15 +2,13 @@
 use mathlib.Core.Path.{refl, sym, ap, ◌∙◌}
 use Prim.Native.Nat.{◌+◌, ◌*◌}
 use native.Mathlib.Omega.{arith}
-use borrow.Author.Tests.{not-true, not-false}
 use lib.Ieee.{lt}
-use lib.ListN.{take}
 use Rattle.geometry.specs.Literals.{fifteen_hundredths}
 use Rattle.repair.specs.Smooth.{best_for, smooth_group}
-use Rattle.repair.specs.Step.{regions_of}
+use Rattle.repair.specs.inside.smooth.Candidates.{regions_in}
 use Rattle.repair.specs.inside.smooth.Site.{state_of, new_parameters, new_point, mesh_for}
 use Rattle.repair.proofs.Laws.Site.Work.{same-trans}
-use Rattle.repair.proofs.Laws.Site.Turn.{listed-range, ready₁, rows₁, slots₁, lowest₁, sited₁, best₁, turned₁, turn-fine, turn-none, turn_moved, site-once, site-vertices, site-placed}
+use Rattle.repair.proofs.Laws.Site.Turn.{none_of, listed-range, ready₁, rows₁, slots₁, lowest₁, sited₁, best₁, turned₁, turn-fine, turn-none, turn_moved, site-once, site-vertices, site-placed}
 use Rattle.repair.proofs.smooth.smooth_group.Goals as goal
 
 pub overflow_mul-group : goal.overflow_mul-group
@@ -25,7 +23,7 @@ list_about-site-requires c = (c.requires.ready.0, c.requires.ready.1)
 pub lowest_about-lowest-requires : goal.lowest_about-lowest-requires
 lowest_about-lowest-requires c = let a = c.args in
     let w = a.work.now in
-    let els = a.elements.now in
+    let els = a.c.elements.now in
     let i = 7 * a.run.first + 6 in
     let r = c.requires.ready.0 in
     let g = c.requires.ready.1 in
@@ -45,7 +43,7 @@ unfolding lib.Ieee.of_bits
 returns-then-not-lowest c =
     let a = c.args in
     let w = a.work.now in
-    let els = a.elements.now in
+    let els = a.c.elements.now in
     let i = 7 * a.run.first + 6 in
     let r = c.requires.ready.0 in
     let g = c.requires.ready.1 in
@@ -56,13 +54,13 @@ returns-then-not-lowest c =
     let g₁ = rows₁ a.x els i a.run.size w _ s r g z l in
     let z₁ = slots₁ a.x els i a.run.size w _ s r g z l in
     let q = lowest₁ a.x els i a.run.size w _ s r g z l a.points.now c.lowest_about-lowest.result c.lowest_about-lowest.ensures in
-    record { turned = turned₁ a.x els i a.run.size w _ s r g z l (smooth_group a.s.options (take a.s.count a.fields) (regions_of a.listed a.regions.now) (mesh_for a.x a.masks.now els) (state_of a.x.vertices a.parameters.now a.points.now a.moved)) a.parameters.now a.points.now _ _ _ (turn-fine a.s.options (take a.s.count a.fields) (regions_of a.listed a.regions.now) a.x a.masks.now els a.parameters.now a.points.now i a.run.size _ r₁ g₁ z₁ a.moved (ap (λ y. lt y fifteen_hundredths) (sym q) ∙ c.if-not-lowest.true)); same_to = (l.same, omega arith) }
+    record { turned = turned₁ a.x els i a.run.size w _ s r g z l (smooth_group a.c.options a.c.fields.now (regions_in a.c.regions) (mesh_for a.x a.c.masks.now els) (state_of a.x.vertices a.parameters.now a.points.now a.moved)) a.parameters.now a.points.now _ _ _ (turn-fine a.c.options a.c.fields.now (regions_in a.c.regions) a.x a.c.masks.now els a.parameters.now a.points.now i a.run.size _ r₁ g₁ z₁ a.moved (ap (λ y. lt y fifteen_hundredths) (sym q) ∙ c.if-not-lowest.true)); same_to = (l.same, omega arith) }
 
 pub best_for-best-requires : goal.best_for-best-requires
 best_for-best-requires c =
     let a = c.args in
     let w = a.work.now in
-    let els = a.elements.now in
+    let els = a.c.elements.now in
     let i = 7 * a.run.first + 6 in
     let r = c.requires.ready.0 in
     let g = c.requires.ready.1 in
@@ -73,21 +71,12 @@ best_for-best-requires c =
     let z₁ = slots₁ a.x els i a.run.size w _ s r g z l in
     record { ready = (r₁, z₁, sited₁ a.x els i a.run.size w _ s r g z l); lowest_value = c.lowest_about-lowest.ensures }
 
-pub shape_of-parameters-then-not-best : goal.shape_of-parameters-then-not-best
-shape_of-parameters-then-not-best c = refl
-
-pub shape_of-points-then-not-best : goal.shape_of-points-then-not-best
-shape_of-points-then-not-best c = refl
-
-pub shape_of-work-then-not-best : goal.shape_of-work-then-not-best
-shape_of-work-then-not-best c = c.best_for-best.auto.work ∙ c.list_about-site.auto.work
-
-pub returns-then-not-best : goal.returns-then-not-best
+pub returns-in_default-clause-turned : goal.returns-in_default-clause-turned
 unfolding lib.Ieee.of_bits
-returns-then-not-best c =
+returns-in_default-clause-turned c =
     let a = c.args in
     let w = a.work.now in
-    let els = a.elements.now in
+    let els = a.c.elements.now in
     let i = 7 * a.run.first + 6 in
     let r = c.requires.ready.0 in
     let g = c.requires.ready.1 in
@@ -98,13 +87,13 @@ returns-then-not-best c =
     let g₁ = rows₁ a.x els i a.run.size w _ s r g z l in
     let z₁ = slots₁ a.x els i a.run.size w _ s r g z l in
     let q = lowest₁ a.x els i a.run.size w _ s r g z l a.points.now c.lowest_about-lowest.result c.lowest_about-lowest.ensures in
-    record { turned = turned₁ a.x els i a.run.size w _ s r g z l (smooth_group a.s.options (take a.s.count a.fields) (regions_of a.listed a.regions.now) (mesh_for a.x a.masks.now els) (state_of a.x.vertices a.parameters.now a.points.now a.moved)) a.parameters.now a.points.now _ _ _ (turn-none a.s.options (take a.s.count a.fields) (regions_of a.listed a.regions.now) a.x a.masks.now els a.parameters.now a.points.now i a.run.size _ r₁ g₁ z₁ a.moved c.best_for-best.result (ap (λ y. lt y fifteen_hundredths) (sym q) ∙ c.if-not-lowest.false) (best₁ a.x els i a.run.size w _ s r g z l (best_for a.s.options (take a.s.count a.fields) (regions_of a.listed a.regions.now) (mesh_for a.x a.masks.now els) (state_of a.x.vertices a.parameters.now a.points.now 0)) _ c.best_for-best.ensures.result_value) (not-true _ c.if-not-best.true)); same_to = (same-trans a.x.area w _ _ l.same c.best_for-best.ensures.same_to, omega arith) }
+    turned₁ a.x els i a.run.size w _ s r g z l (smooth_group a.c.options a.c.fields.now (regions_in a.c.regions) (mesh_for a.x a.c.masks.now els) (state_of a.x.vertices a.parameters.now a.points.now a.moved)) a.parameters.now a.points.now _ _ _ (turn-none a.c.options a.c.fields.now (regions_in a.c.regions) a.x a.c.masks.now els a.parameters.now a.points.now i a.run.size _ r₁ g₁ z₁ a.moved c.best_for-best.result (ap (λ y. lt y fifteen_hundredths) (sym q) ∙ c.if-not-lowest.false) (best₁ a.x els i a.run.size w _ s r g z l (best_for a.c.options a.c.fields.now (regions_in a.c.regions) (mesh_for a.x a.c.masks.now els) (state_of a.x.vertices a.parameters.now a.points.now 0)) _ c.best_for-best.ensures.result_value) (none_of c.best_for-best.result.point c.in_default.not-Some))
 
 pub move_group-requires : goal.move_group-requires
 move_group-requires c =
     let a = c.args in
     let w = a.work.now in
-    let els = a.elements.now in
+    let els = a.c.elements.now in
     let i = 7 * a.run.first + 6 in
     let r = c.requires.ready.0 in
     let g = c.requires.ready.1 in
@@ -132,7 +121,7 @@ unfolding lib.Ieee.of_bits
 returns c =
     let a = c.args in
     let w = a.work.now in
-    let els = a.elements.now in
+    let els = a.c.elements.now in
     let i = 7 * a.run.first + 6 in
     let r = c.requires.ready.0 in
     let g = c.requires.ready.1 in
@@ -144,10 +133,10 @@ returns c =
     let z₁ = slots₁ a.x els i a.run.size w _ s r g z l in
     let q = lowest₁ a.x els i a.run.size w _ s r g z l a.points.now c.lowest_about-lowest.result c.lowest_about-lowest.ensures in
     let e = c.best_for-best.ensures.same_to in
-    let p = site-placed a.x els i a.run.size w _ s r g z l _ e (λ n. new_parameters a.s.options n a.parameters.now c.best_for-best.result.point) in
-    let p' = site-placed a.x els i a.run.size w _ s r g z l _ e (λ n. new_point a.s.options n a.parameters.now c.best_for-best.result.point) in
+    let p = site-placed a.x els i a.run.size w _ s r g z l _ e (λ n. new_parameters a.c.options n a.parameters.now c.in-Some.p) in
+    let p' = site-placed a.x els i a.run.size w _ s r g z l _ e (λ n. new_point a.c.options n a.parameters.now c.in-Some.p) in
     record {
-      turned = turned₁ a.x els i a.run.size w _ s r g z l (smooth_group a.s.options (take a.s.count a.fields) (regions_of a.listed a.regions.now) (mesh_for a.x a.masks.now els) (state_of a.x.vertices a.parameters.now a.points.now a.moved)) a.parameters.now a.points.now _ _ _ (turn_moved a.s.options (take a.s.count a.fields) (regions_of a.listed a.regions.now) a.x a.masks.now els a.parameters.now a.points.now i a.run.size _ r₁ g₁ z₁ a.moved c.best_for-best.result _ _ _ (ap (λ y. lt y fifteen_hundredths) (sym q) ∙ c.if-not-lowest.false) (best₁ a.x els i a.run.size w _ s r g z l (best_for a.s.options (take a.s.count a.fields) (regions_of a.listed a.regions.now) (mesh_for a.x a.masks.now els) (state_of a.x.vertices a.parameters.now a.points.now 0)) _ c.best_for-best.ensures.result_value) (not-false _ c.if-not-best.false)
+      turned = turned₁ a.x els i a.run.size w _ s r g z l (smooth_group a.c.options a.c.fields.now (regions_in a.c.regions) (mesh_for a.x a.c.masks.now els) (state_of a.x.vertices a.parameters.now a.points.now a.moved)) a.parameters.now a.points.now _ _ _ (turn_moved a.c.options a.c.fields.now (regions_in a.c.regions) a.x a.c.masks.now els a.parameters.now a.points.now i a.run.size _ r₁ g₁ z₁ a.moved c.best_for-best.result c.in-Some.p _ _ _ (ap (λ y. lt y fifteen_hundredths) (sym q) ∙ c.if-not-lowest.false) (best₁ a.x els i a.run.size w _ s r g z l (best_for a.c.options a.c.fields.now (regions_in a.c.regions) (mesh_for a.x a.c.masks.now els) (state_of a.x.vertices a.parameters.now a.points.now 0)) _ c.best_for-best.ensures.result_value) c.in-Some.is
           (p a.parameters.now _ c.move_group.ensures.placed) (p' a.points.now _ c.move_group.ensures.placed_2) refl);
       same_to = (same-trans a.x.area w _ _ l.same e, omega arith);
     }

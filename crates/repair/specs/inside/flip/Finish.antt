@@ -2,16 +2,16 @@
 use Rattle.std.specs.Prelude.{ℕ, ◌+◌, ◌*◌, ◌≤◌, ◌≡◌, true, cond, List, eqb, length, take, drop}
 use Rattle.mesh.specs.declared.element.Tet.{Tet}
 use Rattle.mesh.specs.declared.element.Triple.{Triple}
-use Rattle.mesh.specs.declared.boundary.Outcome.{Outcome}
-use Rattle.mesh.specs.declared.boundary.Outcome.TheVariants.{Surface, Refused}
+use Rattle.mesh.specs.Surface.{Outcome}
+use Rattle.mesh.specs.Surface.{Surface, Refused}
 use Rattle.mesh.specs.Element.{tets, triples, all_corners, all_vertices}
 use Rattle.mesh.specs.Boundary.{boundary_of}
 use Rattle.mesh.specs.Surface.{answer}
 use Rattle.mesh.specs.inside.Surface.{area_fits}
 use Rattle.repair.specs.Flip.{sorted_keys, same_triples, end_number}
 use Rattle.repair.specs.Step.{over}
-use Rattle.repair.specs.declared.answer.Answer.{Answer}
-use Rattle.repair.specs.declared.answer.Answer.TheVariants as answers
+use Rattle.repair.specs.Step.{Answer}
+use Rattle.repair.specs.Step as answers
 
 -- what the comparison with the g triples given makes of an outcome, with the surface behind k elements in s
 abbrev pub keyed_outcome : ℕ → ℕ → Outcome → List ℕ → List ℕ → Outcome

@@ -7,7 +7,7 @@ use Rattle.mesh.specs.Tests.{every}
 use Rattle.mesh.specs.Element.{tets, triples}
 use Rattle.mesh.specs.Intake.{well_numbered}
 use Rattle.mesh.specs.Measure.{measure}
-use Rattle.repair.specs.declared.answer.Answer.{Answer}
+use Rattle.repair.specs.Step.{Answer}
 use Rattle.repair.specs.Flip.{State, live, flips}
 use Rattle.repair.specs.inside.flip.Finish.{flip_end}
 

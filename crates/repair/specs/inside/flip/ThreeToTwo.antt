@@ -6,19 +6,14 @@ use Rattle.mesh.specs.declared.element.Tet.{Tet}
 use Rattle.mesh.specs.declared.star.Index.{Index}
 use Rattle.mesh.specs.Sort.{sort, unique}
 use Rattle.mesh.specs.inside.Star.{written}
-use Rattle.repair.specs.declared.flip.orient.Trio.{Trio}
 use Rattle.repair.specs.Flip.{besides}
 use Rattle.repair.specs.inside.Layout.{Same}
 use Rattle.repair.specs.inside.improve.Collapse.{slot_at}
 use Rattle.repair.specs.inside.flip.Tries.{edge_row}
 
 -- the elements in the slots with the three numbers of f
-abbrev pub trio_in : Index → List ℕ → Triple → Trio
-trio_in x w f = record { count = 3; a = slot_at x w f.a; b = slot_at x w f.b; c = slot_at x w f.c }
-
--- the three elements
-abbrev pub three_of : Trio → List Tet
-three_of u = u.a ∷ u.b ∷ u.c ∷ []
+abbrev pub three_in : Index → List ℕ → Triple → List Tet
+three_in x w f = slot_at x w f.a ∷ slot_at x w f.b ∷ slot_at x w f.c ∷ []
 
 -- the vertices of the elements besides those of the edge e, in order, each once
 unfoldable pub others_of : Pair → List Tet → List ℕ

@@ -1,6 +1,6 @@
 -- What the trials of `flip` start from and leave in the work slice (src/flip/counts.rt). For the contracts of private functions;
 -- definitions only.
-use Rattle.std.specs.Prelude.{ℕ, ◌+◌, ◌*◌, ◌≤◌, ◌<◌, ◌≡◌, cond, List, [], ◌∷◌, map, eqb, length, drop, get_or}
+use Rattle.std.specs.Prelude.{ℕ, ◌+◌, ◌*◌, ◌≤◌, ◌<◌, ◌≡◌, List, [], ◌∷◌, map, length, drop, get_or}
 use Rattle.std.proofs.Math.Option.{Option, none, some}
 use Rattle.geometry.specs.declared.point.Point.{Point}
 use Rattle.mesh.specs.declared.element.Pair.{Pair}
@@ -11,13 +11,10 @@ use Rattle.mesh.specs.inside.Rows.{rows}
 use Rattle.mesh.specs.Element.{corners_of}
 use Rattle.mesh.specs.inside.List.{bad_edges}
 use Rattle.mesh.specs.inside.Shared.{owners, shared_row, shared_faces}
-use Rattle.repair.specs.declared.flip.orient.Trio.{Trio}
 use Rattle.repair.specs.declared.flip.counts.Tried.{Tried}
-use Rattle.repair.specs.declared.flip.counts.Places.{Places}
 use Rattle.repair.specs.declared.flip.counts.Lists.{Lists}
 use Rattle.repair.specs.Flip.{State, numbers_with}
 use Rattle.repair.specs.inside.flip.Layout.{SlotsStand, Kept, faces_at, edges_at}
-use Rattle.repair.specs.inside.flip.Trio.{elements_of}
 
 -- ---- the state
 
@@ -46,13 +43,9 @@ pub record Went (x : Index) (n : ℕ) (bound : List (Option Tet) → Type 0) (w 
 
 -- ---- slots by number
 
--- the numbers of two slots, or of three
-unfoldable pub places_of : ℕ → Places → List ℕ
-places_of count p = cond (eqb count 3) (p.a ∷ p.b ∷ p.c ∷ []) (p.a ∷ p.b ∷ [])
-
 -- the old elements are those of the slots with these numbers
-abbrev pub Old : Places → Trio → State → Type 0
-Old p old s = map (λ i. get_or s.slots i none) (places_of old.count p) ≡ map some (elements_of old)
+abbrev pub Old : List ℕ → List Tet → State → Type 0
+Old is old s = map (λ i. get_or s.slots i none) is ≡ map some old
 
 -- a slot of the start has the element of the start, or nothing
 abbrev pub Start : List Tet → State → Type 0

@@ -1,23 +1,28 @@
 -- The groups and the pairs of a direction as they stand in the work slice w, for the contracts of private functions
 -- (src/improve/partners.rt). Definitions only.
-use Rattle.std.specs.Prelude.{ℕ, zero, suc, ◌+◌, ◌*◌, ◌≤◌, ◌<◌, ◌≡◌, Bool, true, false, not, cond, List, [], ◌∷◌, map, eqb, ltb, length, take}
+use Rattle.std.specs.Prelude.{ℕ, zero, suc, ◌+◌, ◌*◌, ◌≤◌, ◌≡◌, Bool, true, false, not, cond, List, [], ◌∷◌, map, eqb, ltb, length, take, Option, None, Some}
 use Rattle.geometry.specs.declared.point.Point.{Point}
 use Rattle.geometry.specs.declared.bounds.Options.{Options}
 use Rattle.mesh.specs.declared.element.Pair.{Pair}
 use Rattle.mesh.specs.declared.star.Index.{Index}
-use Rattle.mesh.specs.Words.{word_at, flat}
+use Rattle.mesh.specs.Words.{word_at, points_of, flat}
 use Rattle.mesh.specs.Sort.{sort}
 use Rattle.mesh.specs.inside.Rows.{le_row}
 use Rattle.mesh.specs.Complex.{mem, keep}
 use Rattle.mesh.specs.Tests.{every}
 use Rattle.mesh.specs.Element.{pair}
 use Rattle.mesh.specs.inside.Group.{group_rows}
+use Rattle.repair.specs.declared.improve.inputs.Inputs.{Inputs}
 use Rattle.repair.specs.declared.improve.partners.Run.{Run}
 use Rattle.repair.specs.Mesh.{Mesh}
 use Rattle.repair.specs.Improve.{partners, pair_off}
 use Rattle.repair.specs.inside.Layout.{flags_at, pairs_at, pairs_in, Same}
 
 -- ---- groups
+
+-- the vertices read, by their parameters
+abbrev pub vertices_of : Inputs → List Point
+vertices_of i = points_of i.index.vertices i.parameters.now
 
 -- the sorted rows of the vertices with these parameters, and room for the pairs
 pub record Ranked (o : Options) (ps : List Point) (x : Index) (w : List ℕ) : Type 0 where
@@ -63,17 +68,18 @@ pair_words (e ∷ es) = e.a ∷ e.b ∷ pair_words es
 abbrev pub seconds : List Pair → List ℕ
 seconds es = map (λ e. e.b) es
 
--- v with u, no pair where u is not below n
-abbrev pub paired_with : ℕ → ℕ → ℕ → List Pair
-paired_with n v u = cond (ltb u n) (pair v u ∷ []) []
+-- v with u, no pair where there is no u
+abbrev pub paired_with : ℕ → Option ℕ → List Pair
+paired_with v None = []
+paired_with v (Some u) = pair v u ∷ []
 
 -- there is a pair, and its second vertex is the second of none of es
 abbrev pub is_new : List Pair → List Pair → Bool
 is_new es [] = false
 is_new es (e ∷ fs) = not (mem e.b (seconds es))
 
--- r pairs of vs with ws were written to the pairs' area; 0 where they do not pair off
-pub record Paired (o : Options) (m : Mesh) (x : Index) (vs ws w w' : List ℕ) (r : ℕ) : Type 0 where
-  pub count : r ≡ cond (pair_off vs ws (partners o m vs ws)) (length (partners o m vs ws)) 0
-  pub pairs : 0 < r → pairs_in x r w' ≡ partners o m vs ws
+-- with Some r the r pairs of vs with ws were written to the pairs' area; with None they do not pair off
+pub record Paired (o : Options) (m : Mesh) (x : Index) (vs ws w w' : List ℕ) (r : Option ℕ) : Type 0 where
+  pub count : r ≡ cond (pair_off vs ws (partners o m vs ws)) (Some (length (partners o m vs ws))) None
+  pub pairs : (k : ℕ) → r ≡ Some k → pairs_in x k w' ≡ partners o m vs ws
   pub same : Same w w' (pairs_at x) x.slots

@@ -3,8 +3,8 @@
 use Rattle.std.specs.Prelude.{ℕ, ◌+◌, ◌-◌, ◌*◌, ◌≤◌, ◌<◌, ◌≡◌, true, cond, List, map, eqb, ltb, Float, length, take, drop, set}
 use Rattle.mesh.specs.declared.element.Tet.{Tet}
 use Rattle.mesh.specs.declared.intake.Sizes.{Sizes}
-use Rattle.mesh.specs.declared.boundary.Outcome.{Outcome}
-use Rattle.mesh.specs.declared.boundary.Outcome.TheVariants.{Surface, Refused}
+use Rattle.mesh.specs.Surface.{Outcome}
+use Rattle.mesh.specs.Surface.{Surface, Refused}
 use Rattle.mesh.specs.Words.{word_at, point_in}
 use Rattle.mesh.specs.Tests.{every}
 use Rattle.mesh.specs.Element.{tets, all_corners, all_vertices}
@@ -12,7 +12,7 @@ use Rattle.mesh.specs.Boundary.{boundary_number, boundary_of}
 use Rattle.mesh.specs.Surface.{answer}
 use Rattle.mesh.specs.Manifold.{nonmanifold, nonmanifold_in}
 use Rattle.mesh.specs.Intake.{well_numbered}
-use Rattle.repair.specs.declared.answer.Answer.{Answer}
+use Rattle.repair.specs.Step.{Answer}
 use Rattle.repair.specs.Mesh.{made, refused}
 use Rattle.repair.specs.Improve.{image_of, first_uses, place_of, renumbered, end_number}
 use Rattle.repair.specs.Step.{State, mesh_of, floats_of, over, finish}

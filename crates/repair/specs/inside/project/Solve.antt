@@ -1,27 +1,24 @@
 -- What the values and arrays of `project_candidate`'s code stand for in specs/Project.antt: the rows of the active fields, the matrix in
--- the corner of 8 rows of 9, the answer of a step. For the contracts of private functions; definitions only.
-use Rattle.std.specs.Prelude.{ℕ, ◌+◌, ◌<◌, ◌≡◌, Bool, true, false, List, [], ◌∷◌, ◌++◌, map, Float, length, get_or, take}
-use Rattle.std.proofs.Math.Option.{Option, none, some}
+-- the corner of 8 rows of 9, the point of a step. For the contracts of private functions; definitions only.
+use Rattle.std.specs.Prelude.{ℕ, ◌+◌, ◌<◌, ◌≡◌, Bool, true, false, List, [], ◌∷◌, ◌++◌, map, Float, length, get_or, take, Option, Some, None}
 use Rattle.geometry.specs.declared.point.Point.{Point}
 use Rattle.geometry.specs.Float.{◌+₆₄◌, ◌*₆₄◌, total}
 use Rattle.geometry.specs.Point.{dot}
 use Rattle.repair.specs.declared.project.locked.Locked as locked
 use Rattle.repair.specs.declared.project.field_rows.Row as row
-use Rattle.repair.specs.declared.project.Step as project
-use Rattle.repair.specs.declared.project.Step.TheVariants.{Ended, Onward}
 use Rattle.repair.specs.Project.{Locked, Row, products, Step, ended, onward}
 
 -- the code's directions
 abbrev pub locks : locked.Locked → Locked
 locks l = record { x = l.x; y = l.y; z = l.z }
 
--- the code's row, without its mark
+-- the code's row
 abbrev pub row_of : row.Row → Row
 row_of r = record { value = r.value; gradient = r.gradient }
 
--- the first n rows
-abbrev pub rows_of : ℕ → List row.Row → List Row
-rows_of n rows = map row_of (take n rows)
+-- the code's rows
+abbrev pub rows_of : List row.Row → List Row
+rows_of rows = map row_of rows
 
 -- 8 rows of 9
 pub record Shaped (m : List (List Float)) : Type 0 where
@@ -38,8 +35,8 @@ entries rs r = map (λ s. dot r.gradient s.gradient) rs ++ (r.value ∷ [])
 
 -- the solved matrix, or none
 abbrev pub outcome : Bool → List (List Float) → Option (List (List Float))
-outcome true m = some m
-outcome false m = none
+outcome true m = Some m
+outcome false m = None
 
 -- s with g times t added, per direction
 abbrev pub scaled_on : Point → Point → Float → Point
@@ -53,7 +50,7 @@ displacement rs m = record {
   z = total (products (λ g. g.z) rs m (length rs));
 }
 
--- the code's step
-abbrev pub step_of : project.Step → Step
-step_of (Ended r) = ended r
-step_of (Onward p) = onward p
+-- a step that hands on the point, if there is one, and else ends with none
+abbrev pub step_of : Option Point → Step
+step_of None = ended None
+step_of (Some p) = onward p

@@ -1,24 +1,26 @@
--- The test of a projected candidate, the candidates by number, and the parts of the neighbours' mean. For the contracts of the private
--- functions of smooth/candidates.rt; For contracts of private functions and for proofs; definitions only.
-use Rattle.std.specs.Prelude.{ℕ, Bool, not, ◌&&◌, ◌||◌, List, [], ◌∷◌, ◌++◌, map, pos, Float, get_or}
-use Rattle.std.proofs.Math.Option.{Option}
+-- The code's Options, the nine candidates, and the parts of the neighbours' mean. For contracts of private functions and for proofs;
+-- definitions only.
+use Rattle.std.specs.Prelude.{ℕ, List, [], ◌∷◌, ◌++◌, map, pos, Float, Option, Some, None}
+use Rattle.std.proofs.Math.Option as Math
+use Rattle.std.proofs.Math.Option.{none, some}
+use Rattle.std.proofs.Common.{Bor}
 use Rattle.std.specs.Float.{binary64}
-use Rattle.std.specs.Float.Ieee.{lt, of_int}
+use Rattle.std.specs.Float.Ieee.{of_int}
 use Rattle.geometry.specs.declared.point.Point.{Point}
-use Rattle.geometry.specs.declared.bounds.Options.{Options}
-use Rattle.geometry.specs.declared.field.Field.{Field}
-use Rattle.geometry.specs.Float.{◌+₆₄◌, ◌*₆₄◌, ◌/₆₄◌, one64}
+use Rattle.geometry.specs.Float.{◌+₆₄◌, ◌/₆₄◌, one64}
 use Rattle.geometry.specs.Literals.{half, quarter}
-use Rattle.geometry.specs.Point.{difference, norm}
-use Rattle.geometry.specs.Bounds.{spacing}
-use Rattle.mesh.specs.Intake.{in_box}
-use Rattle.repair.specs.Smooth.{outside_all, along, step_candidates}
+use Rattle.geometry.specs.Point.{difference}
+use Rattle.repair.specs.Smooth.{along, step_candidates}
 
--- `allowed` of specs/Smooth.antt, which asks of the active fields only whether there is none
-abbrev pub allowed_by : Options → List Field → Option (List ℕ) → Point → Bool → Point → Bool
-allowed_by o fields regions origin inactive p =
-    in_box o.bounds p
-    && (not (lt (half *₆₄ spacing o) (norm (difference p origin))) && (inactive || not (outside_all p fields regions)))
+-- a value of the code's Option
+abbrev pub plain : {A : Type 0} → Option A → Math.Option A
+plain None = none
+plain (Some a) = some a
+
+-- the regions that the code was lent, if any
+abbrev pub regions_in : Option (Bor (List ℕ)) → Math.Option (List ℕ)
+regions_in None = none
+regions_in (Some r) = some r.now
 
 -- how far the first three candidates go towards the mean
 abbrev pub shares : List Float
@@ -27,10 +29,6 @@ shares = one64 ∷ half ∷ quarter ∷ []
 -- the candidates where there is a mean; without one they begin at number 3
 abbrev pub nine : Point → Point → Point → Float → List Point
 nine original origin mean h = map (along origin (difference mean original)) shares ++ step_candidates origin h
-
--- the k-th of them, from 0, and the origin past the last
-unfoldable pub candidate_at : ℕ → Point → Point → Point → Float → Point
-candidate_at k original origin mean h = get_or (nine original origin mean h) k origin
 
 -- a + b, per direction
 abbrev pub sum : Point → Point → Point

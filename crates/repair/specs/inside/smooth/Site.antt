@@ -1,7 +1,7 @@
 -- Where `smooth` keeps what it knows in the work slice w, and how that stands for the states of specs/Smooth.antt. For the contracts of
 -- private functions; definitions only.
-use Rattle.std.specs.Prelude.{ℕ, zero, suc, ◌+◌, ◌*◌, ◌≤◌, ◌<◌, ◌≡◌, true, cond, List, [], ◌∷◌, map, eqb, Float, length, take, drop, set}
-use Rattle.std.proofs.Math.Option.{Option, none, some}
+use Rattle.std.specs.Prelude.{ℕ, zero, suc, ◌+◌, ◌*◌, ◌≤◌, ◌<◌, ◌≡◌, Bool, true, cond, ◌&&◌, List, [], ◌∷◌, map, eqb, Float, length, take, drop, set, Some, None}
+use Rattle.std.proofs.Math.Option.{Option, none}
 use Rattle.geometry.specs.declared.point.Point.{Point}
 use Rattle.geometry.specs.declared.bounds.Options.{Options}
 use Rattle.geometry.specs.declared.field.Field.{Field}
@@ -16,18 +16,18 @@ use Rattle.mesh.specs.Tests.{every, under}
 use Rattle.mesh.specs.Element.{tets}
 use Rattle.mesh.specs.inside.Group.{group_rows}
 use Rattle.mesh.specs.Intake.{well_numbered}
+use Rattle.mesh.specs.Measure.{measure, lowest_of}
+use Rattle.std.specs.Float.Ieee.{lt}
 use Rattle.mesh.specs.inside.Intake.{tet_at}
 use Rattle.mesh.specs.inside.Star.{Complete}
 use Rattle.repair.specs.declared.smooth.trial_scores.Site.{Site}
-use Rattle.repair.specs.declared.smooth.trial_scores.Trial.{Trial}
 use Rattle.repair.specs.declared.smooth.choose.Best as Kept
 use Rattle.repair.specs.declared.smooth.choose.Start.{Start}
-use Rattle.repair.specs.declared.project.Projected.{Projected}
-use Rattle.repair.specs.declared.project.Projected.TheVariants.{Found, Nothing}
+use Rattle.repair.specs.Project.{Projected}
 use Rattle.repair.specs.Mesh.{Mesh}
 use Rattle.repair.specs.Smooth.{State, Best, neighbours, mean, mapped, kept_on, placed, move_to, better, allowed, about_group}
 use Rattle.repair.specs.inside.Layout.{Room, slots_in}
-use Rattle.repair.specs.inside.smooth.Candidates.{nine}
+use Rattle.repair.specs.inside.smooth.Candidates.{nine, plain}
 
 -- ---- a group and the elements about it
 
@@ -86,21 +86,21 @@ pub record Turned (nv : ℕ) (s : State) (P Q P' Q' : List Float) (moved : ℕ) 
 
 -- the best so far as a value
 abbrev pub best_in : Kept.Best → Best
-best_in b = record { lowest = b.lowest; found = cond b.found (some b.point) none }
+best_in b = record { lowest = b.lowest; found = plain b.point }
 
--- the better of the best so far and p, whose trial is t
-unfoldable pub replaced : Kept.Best → Point → Trial → Kept.Best
-replaced best p t = cond t.better (record { lowest = t.lowest; found = true; point = p }) best
+-- every determinant is above 0, and the lowest score is above the bar
+abbrev pub beats : List Tet → List Point → Float → Bool
+beats ts ps bar = every (measure ps).above ts && lt bar (lowest_of (measure ps) ts)
 
 -- a candidate as it was projected, where it is allowed
 abbrev pub permitted : Options → List Field → Option (List ℕ) → Point → List Field → Projected → Projected
-permitted o fields regions origin active Nothing = Nothing
-permitted o fields regions origin active (Found p) = cond (allowed o fields regions origin active p) (Found p) Nothing
+permitted o fields regions origin active None = None
+permitted o fields regions origin active (Some p) = cond (allowed o fields regions origin active p) (Some p) None
 
 -- the better of the best so far and a candidate that is allowed, for the group g and the elements ts about it
 abbrev pub compared : Options → List Tet → State → List ℕ → Best → Projected → Best
-compared o ts s g best Nothing = best
-compared o ts s g best (Found p) = better ts (move_to o s g p).points p best
+compared o ts s g best None = best
+compared o ts s g best (Some p) = better ts (move_to o s g p).points p best
 
 -- no candidate yet
 abbrev pub none_yet : Float → Best

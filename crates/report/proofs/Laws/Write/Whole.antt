@@ -2,7 +2,7 @@
 -- NaN, is exactly the bytes that the writer makes of what is read, word by word; so two that are read as one plot are one. Assumes nothing.
 use Rattle.std.proofs.Common.{◌≡◌, ℕ, zero, suc, ◌+◌, ◌*◌, ◌/◌, ◌%◌, ◌<◌, List, [], ◌∷◌, length, get_or, sym, ap, ◌∙◌, subst, arith, ext_get_or}
 use Rattle.mesh.specs.declared.intake.Sizes.{Sizes}
-use Rattle.report.specs.declared.run.Ran.TheVariants.{Finished}
+use Rattle.report.specs.Run.{Finished}
 use Rattle.report.specs.Format.{words_a_block}
 use Rattle.report.specs.Bytes.{byte_at, word_in, listed}
 use Rattle.report.specs.Block.{Plot, vertices_in, elements_in, reading_number, plot_in, reading}

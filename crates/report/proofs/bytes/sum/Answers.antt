@@ -10,7 +10,7 @@ unfolding sum_of
 loop-n-init c = (omega arith, refl)
 
 pub loop-n-preserved : goal.loop-n-preserved
-loop-n-preserved c = (omega arith, sum_more c.args.s.now c.args.i c.loop-n.n c.loop-n.total c.word.result c.wrapping_add_u32-total.result c.loop-n.invariant.1 c.word.ensures c.wrapping_add_u32-total.ensures.value)
+loop-n-preserved c = (omega arith, sum_more c.args.s.now c.args.i c.loop-n.n c.loop-n.total c.word-total.result _ c.loop-n.invariant.1 c.word-total.ensures refl)
 
 pub returns : goal.returns
 returns c = let e : c.loop-n.n ≡ words_a_block = omega arith in rw e at c.loop-n.invariant.1

@@ -1,16 +1,19 @@
 -- `report::header::field_from` meets its contract, kind by kind. Assumes nothing.
-use Rattle.std.proofs.Common.{eq-eqb, ne_eqb}
+use Rattle.std.proofs.Common.{◌≡◌, ◌<◌, arith, ne_eqb}
 use Rattle.report.specs.Block.{field_from}
+use Rattle.report.proofs.Laws.Kinds.{kind-level, kind-plane, kind-ball}
 use Rattle.report.proofs.header.field_from.Goals as goal
 
-pub returns-then-kind-eq-LEVEL_KIND : goal.returns-then-kind-eq-LEVEL_KIND
+pub returns-in-Level : goal.returns-in-Level
 unfolding field_from
-returns-then-kind-eq-LEVEL_KIND c = rw (eq-eqb c.args.kind 0 c.if-kind-eq-LEVEL_KIND.true) (cc)
+returns-in-Level c = let e : c.args.kind ≡ 0 = kind-level c.args.kind c.try_from.result c.try_from.ensures c.in-Level.ensures in rw e (cc)
 
-pub returns-then-kind-eq-PLANE_KIND : goal.returns-then-kind-eq-PLANE_KIND
+pub returns-in-Plane : goal.returns-in-Plane
 unfolding field_from
-returns-then-kind-eq-PLANE_KIND c = rw (ne_eqb c.args.kind 0 c.if-kind-eq-LEVEL_KIND.false, eq-eqb c.args.kind 1 c.if-kind-eq-PLANE_KIND.true) (cc)
+returns-in-Plane c = let e : c.args.kind ≡ 1 = kind-plane c.args.kind c.try_from.result c.try_from.ensures c.in-Plane.ensures in rw e (cc)
 
-pub returns : goal.returns
+pub returns-in-Ball : goal.returns-in-Ball
 unfolding field_from
-returns c = rw (ne_eqb c.args.kind 0 c.if-kind-eq-LEVEL_KIND.false, ne_eqb c.args.kind 1 c.if-kind-eq-PLANE_KIND.false) (cc)
+returns-in-Ball c =
+    let e : 1 < c.args.kind = kind-ball c.args.kind c.try_from.result c.try_from.ensures c.in-Ball.ensures in
+    rw (ne_eqb c.args.kind 0 (λ f. omega arith), ne_eqb c.args.kind 1 (λ f. omega arith)) (cc)

@@ -1,5 +1,5 @@
 -- `report::table::inside_lines` meets its contract. The invariant: the lines of the first j fields stand there. Assumes nothing.
-use Rattle.std.proofs.Common.{◌≡◌, ◌+◌, ◌-◌, ◌*◌, ◌≤◌, map, length, take}
+use Rattle.std.proofs.Common.{◌≡◌, ◌+◌, ◌*◌, ◌≤◌, map, length, take}
 use Rattle.mesh.specs.Words.{points_of}
 use Rattle.mesh.specs.Element.{tets}
 use Rattle.report.specs.Table.{inside_count, inside_lines}
@@ -8,6 +8,3 @@ use Rattle.report.proofs.table.inside_lines.Given as goal
 
 abbrev pub invariant-loop-j : goal.invariant-loop-j
 invariant-loop-j l = (l.j ≤ l.count) × (l.p ≤ l.at + 340 * l.j) × (length l.out ≡ length l.initial.out) × Written l.initial.out l.out l.at l.p (inside_lines 0 (map (inside_count (points_of l.nv l.points) (tets l.n l.elements)) (take l.j l.fields)))
-
-abbrev pub decreases-loop-j : goal.decreases-loop-j
-decreases-loop-j l = l.count - l.j

@@ -13,4 +13,4 @@ pub bounds-out-at-4 : goal.bounds-out-at-4
 bounds-out-at-4 c = simp length-set (omega arith)
 
 pub returns : goal.returns
-returns c = (put_one c.args.out.now c.args.c.at c.args.c.sum _ _ c.args.w _ _ _ _ refl refl refl refl refl c.wrapping_add_u32.ensures.value, refl)
+returns c = (put_one c.args.out.now c.args.c.at c.args.c.sum _ _ c.args.w _ _ _ _ refl refl refl refl refl refl, refl)

@@ -1,10 +1,7 @@
 -- `mesh::link::boundary::boundary_ok_in` meets its contract. Assumes nothing.
-use Rattle.std.proofs.Common.{◌∙◌, arith}
+use Rattle.std.proofs.Common.{◌∙◌}
 use Rattle.mesh.proofs.Laws.LinkRows.Whole.{boundary-answer}
 use Rattle.mesh.proofs.link.boundary.boundary_ok_in.Goals as goal
-
-pub links_meet-requires : goal.links_meet-requires
-links_meet-requires c = (omega arith, omega (arith, c.requires.1, c.requires.2))
 
 pub returns : goal.returns
 returns c = λ a b r. c.links_meet.ensures ∙ boundary-answer a b c.args.n c.args.m c.args.area.now r

@@ -21,12 +21,6 @@ overflow_add-p-in-loop-i c = omega (arith, c.requires.0, c.requires.1, c.loop-i-
 pub copy_words-requires : goal.copy_words-requires
 copy_words-requires c = let k = (dropping-kept c.args.p c.args.m c.args.area.now c.requires.2 c.loop-i.invariant).long in (omega (arith, k, c.requires.2, c.loop-i-test.true), omega (arith, k, c.requires.2, c.loop-i-test.true), λ h. absurd (omega arith))
 
-pub overflow_add-i : goal.overflow_add-i
-overflow_add-i c = omega (arith, c.requires.0, c.requires.1, c.loop-i-test.true)
-
-pub loop-i-smaller : goal.loop-i-smaller
-loop-i-smaller c = omega (arith, c.loop-i-test.true)
-
 pub loop-i-preserved : goal.loop-i-preserved
 loop-i-preserved c = dropping-turn c.args.p c.args.m c.args.area.now c.requires.2 c.loop-i.invariant c.loop-i-test.true c.copy_words.new.s c.copy_words.ensures
 

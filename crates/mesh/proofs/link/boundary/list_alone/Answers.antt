@@ -5,6 +5,7 @@ use Rattle.mesh.specs.Words.{flat}
 use Rattle.mesh.specs.inside.LinkRows.{face_rows}
 use Rattle.mesh.proofs.Laws.LinkRows.Alone.{put-start, put-kept, put-few, put_some, put-more, put-less, put-end}
 use Rattle.mesh.proofs.link.boundary.list_alone.Goals as goal
+use Rattle.mesh.proofs.link.boundary.list_alone.Goals.{then-alone_about, else-alone_about}
 
 pub loop-first-init : goal.loop-first-init
 loop-first-init c = put-start c.args.a c.args.b c.args.n c.args.area.now c.requires.1
@@ -39,23 +40,18 @@ overflow_add-c c = omega (arith, c.requires.0, c.loop-first.invariant.few, c.loo
 pub overflow_add-first : goal.overflow_add-first
 overflow_add-first c = let k = put-few c.args.a c.args.b c.args.n c.args.area.now c.requires.1 c.loop-first.invariant c.loop-first-test.true c.run_from-k.result c.run_from-k.ensures in omega (arith, c.requires.0, k)
 
-pub loop-first-smaller-then-alone_about : goal.loop-first-smaller-then-alone_about
-loop-first-smaller-then-alone_about c = let k = put_some c.args.a c.args.b c.args.n c.args.area.now c.requires.1 c.loop-first.invariant c.loop-first-test.true c.run_from-k.result c.run_from-k.ensures in omega (arith, k, c.loop-first-test.true)
-
-pub loop-first-preserved-then-alone_about : goal.loop-first-preserved-then-alone_about
-loop-first-preserved-then-alone_about c = put-more c.args.a c.args.b c.args.n c.args.area.now c.requires.1 c.loop-first.invariant c.loop-first-test.true c.run_from-k.result c.run_from-k.ensures c.face_in-f.result c.face_in-f.ensures (sym c.alone_about.ensures ∙ c.if-alone_about.true) c.put_face.new.area (c.put_face.ensures ∙ (let e : 4 * (4 * c.args.n) ≡ 16 * c.args.n = omega arith in ap (λ (u : ℕ). paste c.loop-first.area (u + 9 * c.loop-first.c) (flat (face_rows c.args.a c.args.b c.face_in-f.result)) 9) e))
-
-pub overflow_add-first-else-alone_about : goal.overflow_add-first-else-alone_about
-overflow_add-first-else-alone_about c = let k = put-few c.args.a c.args.b c.args.n c.args.area.now c.requires.1 c.loop-first.invariant c.loop-first-test.true c.run_from-k.result c.run_from-k.ensures in omega (arith, c.requires.0, k)
-
 pub loop-first-smaller : goal.loop-first-smaller
 loop-first-smaller c = let k = put_some c.args.a c.args.b c.args.n c.args.area.now c.requires.1 c.loop-first.invariant c.loop-first-test.true c.run_from-k.result c.run_from-k.ensures in omega (arith, k, c.loop-first-test.true)
-
-pub loop-first-preserved : goal.loop-first-preserved
-loop-first-preserved c = put-less c.args.a c.args.b c.args.n c.args.area.now c.requires.1 c.loop-first.invariant c.loop-first-test.true c.run_from-k.result c.run_from-k.ensures c.face_in-f.result c.face_in-f.ensures (sym c.alone_about.ensures ∙ c.if-alone_about.false)
 
 pub shape_of-area : goal.shape_of-area
 shape_of-area c = (put-kept c.args.a c.args.b c.args.n c.args.area.now c.requires.1 (c.loop-first.invariant)).long
 
 pub returns : goal.returns
 returns c = put-end c.args.a c.args.b c.args.n c.args.area.now c.requires.1 c.loop-first.invariant c.loop-first-test.false
+
+pub loop-first-preserved : goal.loop-first-preserved
+loop-first-preserved c =
+    elim c.if-alone_about.branch [
+      | then-alone_about w ↦ rw (w.area-is, w.c-is) (put-more c.args.a c.args.b c.args.n c.args.area.now c.requires.1 c.loop-first.invariant c.loop-first-test.true c.run_from-k.result c.run_from-k.ensures c.face_in-f.result c.face_in-f.ensures (sym c.alone_about.ensures ∙ w.if-alone_about.true) w.put_face.new.area (w.put_face.ensures ∙ (let e : 4 * (4 * c.args.n) ≡ 16 * c.args.n = omega arith in ap (λ (u : ℕ). paste c.loop-first.area (u + 9 * c.loop-first.c) (flat (face_rows c.args.a c.args.b c.face_in-f.result)) 9) e)))
+      | else-alone_about w ↦ rw (w.area-is, w.c-is) (put-less c.args.a c.args.b c.args.n c.args.area.now c.requires.1 c.loop-first.invariant c.loop-first-test.true c.run_from-k.result c.run_from-k.ensures c.face_in-f.result c.face_in-f.ensures (sym c.alone_about.ensures ∙ w.if-alone_about.false))
+    ]

@@ -1,31 +1,28 @@
 -- `mesh::link::marks::has_mark` meets its contract. The invariant: the rows passed have another mark. Assumes nothing.
-use Rattle.std.proofs.Common.{arith, rules}
+use Rattle.std.proofs.Common.{◌≡◌, ◌+◌, ◌-◌, ◌*◌, arith}
 use Rattle.mesh.proofs.Laws.LinkRows.Areas.{seek-start, seek-room, seek_found, seek-turn, seek-end}
 use Rattle.mesh.proofs.link.marks.has_mark.Goals as goal
 
-pub loop-left-init : goal.loop-left-init
-loop-left-init c = seek-start c.args.area.now c.args.p c.args.k c.args.kw c.args.m (c.requires)
+pub loop-i-init : goal.loop-i-init
+loop-i-init c =
+    let e : c.args.k - 0 ≡ c.args.k = omega arith in
+    let f : c.args.p + 0 * (c.args.kw + 1) ≡ c.args.p = omega arith in
+    rw (e, f) (seek-start c.args.area.now c.args.p c.args.k c.args.kw c.args.m c.requires)
 
-pub overflow_add-i : goal.overflow_add-i
-overflow_add-i c = let h = seek-room c.loop-left.invariant c.loop-left-test.true in omega arith
+pub overflow_mul-i : goal.overflow_mul-i
+overflow_mul-i c = let h = seek-room c.loop-i.invariant (omega arith) in omega arith
 
-pub offset_bounds-area-i : goal.offset_bounds-area-i
-offset_bounds-area-i c = let h = seek-room c.loop-left.invariant c.loop-left-test.true in search rules
+pub overflow_add-p : goal.overflow_add-p
+overflow_add-p c = let h = seek-room c.loop-i.invariant (omega arith) in omega arith
 
-pub bounds-area-i : goal.bounds-area-i
-bounds-area-i c = let h = seek-room c.loop-left.invariant c.loop-left-test.true in omega arith
+pub returns-then-area-p : goal.returns-then-area-p
+returns-then-area-p c = seek_found c.loop-i.invariant (omega arith) c.if-area-p.true
 
-pub returns-then-area-i : goal.returns-then-area-i
-returns-then-area-i c = seek_found c.loop-left.invariant c.loop-left-test.true c.if-area-i.true
-
-pub overflow_add-i-in-loop-left : goal.overflow_add-i-in-loop-left
-overflow_add-i-in-loop-left c = let h = seek-room c.loop-left.invariant c.loop-left-test.true in omega arith
-
-pub overflow_add-i-in-loop-left-2 : goal.overflow_add-i-in-loop-left-2
-overflow_add-i-in-loop-left-2 c = let h = seek-room c.loop-left.invariant c.loop-left-test.true in omega arith
-
-pub loop-left-preserved : goal.loop-left-preserved
-loop-left-preserved c = seek-turn c.loop-left.invariant c.loop-left-test.true c.if-area-i.false
+pub loop-i-preserved : goal.loop-i-preserved
+loop-i-preserved c =
+    let e : c.args.k - c.loop-i.i - 1 ≡ c.args.k - (c.loop-i.i + 1) = omega arith in
+    let f : c.args.p + c.loop-i.i * (c.args.kw + 1) + (c.args.kw + 1) ≡ c.args.p + (c.loop-i.i + 1) * (c.args.kw + 1) = omega arith in
+    rw (e, f) at (seek-turn c.loop-i.invariant (omega arith) c.if-area-p.false)
 
 pub returns : goal.returns
-returns c = seek-end c.loop-left.invariant c.loop-left-test.false
+returns c = seek-end c.loop-i.invariant (omega arith)

@@ -1,21 +1,21 @@
 -- `repair::flip::orient::is_accepted` meets its contract, test by test. Assumes nothing.
+use mathlib.Core.Path.{◌∙◌}
 use Rattle.mesh.specs.Words.{points_of}
 use Rattle.mesh.specs.Measure.{measure}
-use Rattle.repair.specs.inside.flip.Trio.{elements_of}
-use Rattle.repair.proofs.Laws.Flip.Trio.{accepted-flat, accepted-low, accepted-bad, accepted-volume}
+use Rattle.repair.proofs.Laws.Flip.Accepted.{accepted-low, accepted-more, accepted-volume}
 use Rattle.repair.proofs.flip.orient.is_accepted.Goals as goal
+use Rattle.repair.proofs.flip.orient.is_accepted.Goals.{then-m-n, else-m-n}
 
-pub returns-then-not-all_above : goal.returns-then-not-all_above
-returns-then-not-all_above c = accepted-flat (measure (points_of c.args.nv c.args.points.now)) (elements_of c.args.old) (elements_of c.args.new) _ c.all_above.ensures c.if-not-all_above.true
-
-pub returns-then-not-m-n : goal.returns-then-not-m-n
+pub returns-then-n-m : goal.returns-then-n-m
 unfolding lib.Ieee.of_bits
-returns-then-not-m-n c = accepted-low (measure (points_of c.args.nv c.args.points.now)) (elements_of c.args.old) (elements_of c.args.new) _ c.all_above.ensures c.if-not-all_above.false _ _ c.tally_trio-m.ensures c.tally_trio-n.ensures c.if-not-m-n.true
+returns-then-n-m c =
+    accepted-volume (measure (points_of c.args.nv c.args.points.now)) c.args.old.now c.args.new.now _ c.all_above.ensures c.if-not-all_above.false _ _ c.tally-m.ensures c.tally-n.ensures c.if-n-m.true.0 c.if-n-m.true.1 _ c.same_volume.ensures
 
-pub returns-then-m-n : goal.returns-then-m-n
+pub returns-else-n-m : goal.returns-else-n-m
 unfolding lib.Ieee.of_bits
-returns-then-m-n c = accepted-bad (measure (points_of c.args.nv c.args.points.now)) (elements_of c.args.old) (elements_of c.args.new) _ c.all_above.ensures c.if-not-all_above.false _ _ c.tally_trio-m.ensures c.tally_trio-n.ensures c.if-not-m-n.false c.if-m-n.true
-
-pub returns : goal.returns
-unfolding lib.Ieee.of_bits
-returns c = accepted-volume (measure (points_of c.args.nv c.args.points.now)) (elements_of c.args.old) (elements_of c.args.new) _ c.all_above.ensures c.if-not-all_above.false _ _ c.tally_trio-m.ensures c.tally_trio-n.ensures c.if-not-m-n.false c.if-m-n.false _ c.same_volume.ensures
+returns-else-n-m c =
+    let μ = measure (points_of c.args.nv c.args.points.now) in
+    elim c.if-m-n.branch [
+      | then-m-n w ↦ accepted-more μ c.args.old.now c.args.new.now _ c.all_above.ensures c.if-not-all_above.false _ _ c.tally-m.ensures c.tally-n.ensures w.if-m-n.true _ w.t-10-is c.if-n-m.either
+      | else-m-n w ↦ w.t-10-is ∙ w.if-m-n.false ∙ accepted-low μ c.args.old.now c.args.new.now _ c.all_above.ensures c.if-not-all_above.false _ _ c.tally-m.ensures c.tally-n.ensures w.if-m-n.false
+    ]

@@ -1,10 +1,13 @@
 -- `repair::flip::orient::orient` meets its contract. Assumes nothing.
-use mathlib.Core.Path.{refl}
+use native.Mathlib.Omega.{arith}
+use Rattle.std.proofs.lemmas.List.{get_or_default}
+use Rattle.std.proofs.lemmas.List.Edits.{map_over_more}
 use Rattle.mesh.specs.Words.{points_of}
 use Rattle.mesh.specs.Measure.{measure}
 use Rattle.repair.specs.Flip.{oriented}
-use Rattle.repair.proofs.Laws.Flip.Trio.{elements-map}
 use Rattle.repair.proofs.flip.orient.orient.Goals as goal
 
-pub returns : goal.returns
-returns c = (refl, elements-map (oriented (measure (points_of c.args.nv c.args.points.now))) c.args.u _ refl c.orient_one.ensures c.orient_one-2.ensures c.orient_one-3.ensures)
+pub loop-t-preserved : goal.loop-t-preserved
+loop-t-preserved c =
+    let f = oriented (measure (points_of c.args.nv c.args.points.now)) in
+    rw (c.orient_one.ensures) (map_over_more f c.args.ts.now c.loop-t.ts c.loop-t.t-index _ c.loop-t-test.true c.loop-t.invariant (get_or_default c.loop-t.ts c.loop-t.t-index _ _ (omega arith)))

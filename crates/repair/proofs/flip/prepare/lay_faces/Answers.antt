@@ -1,12 +1,8 @@
 -- `repair::flip::prepare::lay_faces` meets its contract. Assumes nothing.
 use mathlib.Core.Path.{refl}
-use native.Mathlib.Omega.{arith}
 use Rattle.mesh.specs.Words.{points_of}
 use Rattle.repair.proofs.Laws.Flip.Lists.{faces-laid}
 use Rattle.repair.proofs.flip.prepare.lay_faces.Goals as goal
-
-pub slice_bounds-shared_faces_in-end : goal.slice_bounds-shared_faces_in-end
-slice_bounds-shared_faces_in-end c = let r = c.requires.0 in let a = r.lengths in let b = r.long in omega arith
 
 pub returns : goal.returns
 returns c = faces-laid c.args.x c.args.n (points_of c.args.x.vertices c.args.points.now) c.args.elements.now c.args.work.now c.copy_into.new.d c.shared_faces_in.new.area _ c.shared_faces_in.result c.requires.0 c.requires.1 _ _ c.faces_at-k.ensures c.edges_at-e.ensures c.copy_into.ensures c.shared_faces_in.ensures refl

@@ -1,8 +1,10 @@
 -- `repair::flip::three_to_two::put_others` meets its contract. Assumes nothing.
-use Rattle.repair.proofs.Laws.Flip.Others.{four-put}
+use native.Mathlib.Omega.{arith}
+use Rattle.repair.proofs.Laws.Flip.Others.{vertices-turn, vertices-end}
 use Rattle.repair.proofs.flip.three_to_two.put_others.Goals as goal
 
+pub loop-v-preserved : goal.loop-v-preserved
+loop-v-preserved c = vertices-turn c.args.e c.requires c.loop-v.invariant c.loop-v-test.true _ _ c.put_other-n.ensures.puts c.put_other-n.ensures.upper_bound
+
 pub returns : goal.returns
-returns c =
-    let both = four-put c.args.e c.args.t (c.requires) (c.put_other-i.ensures.puts, c.put_other-i.ensures.upper_bound) (c.put_other-j.ensures.puts, c.put_other-j.ensures.upper_bound) (c.put_other-l.ensures.puts, c.put_other-l.ensures.upper_bound) (c.put_other.ensures.puts, c.put_other.ensures.upper_bound) in
-    record { puts = both.0; upper_bound = both.1 }
+returns c = let both = vertices-end c.args.e c.requires c.loop-v.invariant c.loop-v-test.false (omega arith) in record { puts = both.0; upper_bound = both.1 }

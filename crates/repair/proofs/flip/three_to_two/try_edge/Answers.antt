@@ -1,5 +1,4 @@
 -- `repair::flip::three_to_two::try_edge` meets its contract: three returns that change nothing, and the replacement. Assumes nothing.
-use mathlib.Core.Path.{◌∙◌}
 use Rattle.mesh.specs.Words.{points_of}
 use Rattle.mesh.specs.Measure.{measure}
 use Rattle.repair.proofs.Laws.Flip.Replaced.{counts_same}
@@ -17,12 +16,6 @@ returns-then-m-ne3 c =
 pub returns-then-any_live : goal.returns-then-any_live
 returns-then-any_live c =
     record { by_index = (λ n s h l b. edge-taken (measure (points_of c.args.x.vertices c.args.points.now)) c.args.e h l b c.list_both-k.ensures c.if-k-ne3.false c.triple_from-i.ensures c.elements_in-old.ensures c.list_others-m.ensures c.if-m-ne3.false c.triple_from-f.ensures c.any_live.ensures c.if-any_live.true); counts = counts_same (c.requires) }
-
-pub replace-requires : goal.replace-requires
-replace-requires c = c.requires
-
-pub shape_of-work : goal.shape_of-work
-shape_of-work c = c.replace.auto.work ∙ c.list_others-m.auto.work ∙ c.list_both-k.auto.work
 
 pub returns : goal.returns
 returns c =

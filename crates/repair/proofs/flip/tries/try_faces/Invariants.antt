@@ -1,10 +1,6 @@
 -- `repair::flip::tries::try_faces` meets its contract. The invariant: the faces so far are tried, and the rows are kept. Assumes nothing.
-use Prim.Native.Nat.{◌-◌}
 use Rattle.repair.proofs.Laws.Flip.Tries.{AtFace}
 use Rattle.repair.proofs.flip.tries.try_faces.Given as goal
 
 abbrev pub invariant-loop-i : goal.invariant-loop-i
 invariant-loop-i l = AtFace l.x l.n l.count l.points l.initial.work l.work l.t l.i
-
-abbrev pub decreases-loop-i : goal.decreases-loop-i
-decreases-loop-i l = l.count - l.i

@@ -1,17 +1,20 @@
 -- `repair::flip::two_to_three::apex` meets its contract. Assumes nothing.
-use mathlib.Core.Path.{sym, ◌∙◌}
+use mathlib.Core.Path.{◌∙◌}
+use mathlib.Core.Bool.{not}
+use mathlib.Core.List.{[], ◌∷◌}
+use Prim.Native.Nat.{ℕ}
+use Rattle.std.proofs.Common.{rules, tests}
+use Rattle.std.proofs.lemmas.Iterator.{YieldsList-from_slice}
+use Rattle.std.proofs.lemmas.Iterator.Consumers.{YieldsList-from_copied}
+use Rattle.std.proofs.lemmas.Iterator.Search.{find_from_yields_List}
+use Rattle.mesh.specs.Complex.{mem}
 use Rattle.mesh.specs.Element.{corners_of}
-use Rattle.repair.proofs.Laws.Flip.Apex.{apex-first, apex-second, apex-third, apex-last}
+use Rattle.repair.proofs.Laws.Flip.Apex.{apex-found}
 use Rattle.repair.proofs.flip.two_to_three.apex.Goals as goal
 
-pub returns-then-not-is_corner : goal.returns-then-not-is_corner
-returns-then-not-is_corner c = apex-first (corners_of c.args.f) c.args.t (sym c.is_corner.ensures ∙ c.if-not-is_corner.true)
-
-pub returns-then-not-is_corner-2 : goal.returns-then-not-is_corner-2
-returns-then-not-is_corner-2 c = apex-second (corners_of c.args.f) c.args.t (sym c.is_corner.ensures ∙ c.if-not-is_corner.false) (sym c.is_corner-2.ensures ∙ c.if-not-is_corner-2.true)
-
-pub returns-then-not-is_corner-3 : goal.returns-then-not-is_corner-3
-returns-then-not-is_corner-3 c = apex-third (corners_of c.args.f) c.args.t (sym c.is_corner.ensures ∙ c.if-not-is_corner.false) (sym c.is_corner-2.ensures ∙ c.if-not-is_corner-2.false) (sym c.is_corner-3.ensures ∙ c.if-not-is_corner-3.true)
-
 pub returns : goal.returns
-returns c = apex-last (corners_of c.args.f) c.args.t (sym c.is_corner.ensures ∙ c.if-not-is_corner.false) (sym c.is_corner-2.ensures ∙ c.if-not-is_corner-2.false) (sym c.is_corner-3.ensures ∙ c.if-not-is_corner-3.false)
+returns c =
+    let t = c.args.t in
+    let σ = corners_of c.args.f in
+    c.unwrap_or.ensures
+    ∙ apex-found σ t c.find.result (find_from_yields_List (λ (v : ℕ). not (mem v σ)) _ _ c.find.result c.find.ensures.ran (YieldsList-from_copied (YieldsList-from_slice (t.a ∷ t.b ∷ t.c ∷ []) cc)) (λ x b q k. search (rules, tests)))

@@ -17,9 +17,6 @@ pub returns-then-any_live : goal.returns-then-any_live
 returns-then-any_live c =
     record { by_index = λ n ts s z l fl st b. face-edge (measure (points_of c.args.x.vertices c.args.points.now)) c.args.x n c.args.t c.args.work.now ts s c.args.f c.args.i c.args.j z l fl st b _ _ c.slot-p.ensures c.slot-q.ensures c.if-p.false c.if-q.false _ _ c.apex-a.ensures c.apex-b.ensures _ c.any_live.ensures c.if-any_live.true; counts = counts_same c.requires }
 
-pub replace-requires : goal.replace-requires
-replace-requires c = c.requires
-
 pub returns : goal.returns
 returns c =
     record { by_index = λ n ts s z l fl st b. face-made (measure (points_of c.args.x.vertices c.args.points.now)) c.args.x n c.args.t c.args.work.now ts s c.args.f c.args.i c.args.j z l fl st b _ _ c.slot-p.ensures c.slot-q.ensures c.if-p.false c.if-q.false _ _ c.apex-a.ensures c.apex-b.ensures _ c.any_live.ensures c.if-any_live.false _ c.three_about-new.ensures _ _ c.replace.ensures.by_index; counts = c.replace.ensures.counts }

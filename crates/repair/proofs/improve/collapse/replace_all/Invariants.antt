@@ -7,6 +7,3 @@ use Rattle.repair.proofs.improve.collapse.replace_all.Given as goal
 
 abbrev pub invariant-loop-i : goal.invariant-loop-i
 invariant-loop-i l = (l.i ≤ l.k) × (length l.work ≡ length l.initial.work) × Left l.x l.x.room l.k l.initial.work l.work l.i
-
-abbrev pub decreases-loop-i : goal.decreases-loop-i
-decreases-loop-i l = l.i

@@ -7,6 +7,3 @@ use Rattle.repair.proofs.improve.collapse.replace_in_slots.Given as goal
 
 abbrev pub invariant-loop-q : goal.invariant-loop-q
 invariant-loop-q l = (l.q ≤ l.e) × (length l.work ≡ length l.initial.work) × (slots_replaced l.x l.a l.b (l.e - l.q) l.q l.work ≡ slots_replaced l.x l.a l.b l.k l.p l.initial.work)
-
-abbrev pub decreases-loop-q : goal.decreases-loop-q
-decreases-loop-q l = l.e - l.q

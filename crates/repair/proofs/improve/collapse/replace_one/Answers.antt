@@ -1,17 +1,20 @@
 -- `repair::improve::collapse::replace_one` meets its contract. Assumes nothing.
-use mathlib.Core.Path.{◌∙◌}
+use mathlib.Core.Path.{ap, ◌∙◌}
+use mathlib.Core.List.{List}
+use Prim.Native.Nat.{ℕ, ◌+◌}
+use lib.ListN.{set}
+use Rattle.repair.specs.inside.Layout.{flags_at}
 use Rattle.repair.proofs.Laws.Replace.State.{self-goes, one-goes}
 use Rattle.repair.proofs.Laws.Replace.Turns.{slots-room}
 use Rattle.repair.proofs.improve.collapse.replace_one.Goals as goal
-
-pub returns-then-a-b : goal.returns-then-a-b
-returns-then-a-b c = λ ha hb o m s st. self-goes o m c.args.x c.args.x.room c.args.a c.args.b c.args.work.now s st ha _ c.if-a-b.true c.flag.ensures
+use Rattle.repair.proofs.improve.collapse.replace_one.Goals.{then-a-b, else-a-b}
 
 pub replace_in_slots-requires : goal.replace_in_slots-requires
 replace_in_slots-requires c = slots-room c.args.x c.args.x.room c.args.a _ _ c.args.work.now c.requires c.star-k.auto.s c.star-k.ensures.0
 
-pub shape_of-work : goal.shape_of-work
-shape_of-work c = c.flag-2.auto.work ∙ c.join.auto.s ∙ c.replace_in_slots.auto.work ∙ c.star-k.auto.s
-
 pub returns : goal.returns
-returns c = λ ha hb o m s st. one-goes o m c.args.x c.args.x.room c.args.a c.args.b c.args.work.now s st ha hb c.if-a-b.false _ _ _ _ _ c.star-k.ensures.0 c.star-k.ensures.1 c.replace_in_slots.ensures c.join.ensures c.flag-2.ensures
+returns c =
+    elim c.if-a-b.branch [
+      | then-a-b w ↦ λ ha hb o m s st. one-goes o m c.args.x c.args.x.room c.args.a c.args.b c.args.work.now s st ha hb w.if-a-b.true _ _ _ _ _ w.star-k.ensures.0 w.star-k.ensures.1 w.replace_in_slots.ensures w.join.ensures (c.flag.ensures ∙ ap (λ (u : List ℕ). set u (flags_at c.args.x + c.args.a) 1) w.work-is)
+      | else-a-b w ↦ λ ha hb o m s st. self-goes o m c.args.x c.args.x.room c.args.a c.args.b c.args.work.now s st ha _ w.if-a-b.false (c.flag.ensures ∙ ap (λ (u : List ℕ). set u (flags_at c.args.x + c.args.a) 1) w.work-is)
+    ]

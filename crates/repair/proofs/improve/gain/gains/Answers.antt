@@ -4,14 +4,14 @@ use Rattle.repair.proofs.Laws.Gain.Around.{double, around, gain-is}
 use Rattle.repair.proofs.improve.gain.gains.Goals as goal
 
 pub overflow_mul-k : goal.overflow_mul-k
-overflow_mul-k c = omega (arith, double c.args.x c.args.x.room c.args.k c.args.work.now c.requires.0 c.requires.1 c.requires.2.3.index)
+overflow_mul-k c = omega (arith, double c.args.given.now.index c.args.given.now.index.room c.args.k c.args.work.now c.requires.0 c.requires.1 c.requires.2.3.index)
 
 pub overflow_add-x : goal.overflow_add-x
-overflow_add-x c = let a = around c.args.x c.args.x.room c.args.k c.args.work.now c.requires.0 c.requires.1 c.requires.2.3.index _ _ _ _ c.pairs_at.ensures c.star_about-c.ensures.0 c.star_about-c.ensures.1 c.elements_at.ensures in let b = a.fits in omega arith
+overflow_add-x c = let a = around c.args.given.now.index c.args.given.now.index.room c.args.k c.args.work.now c.requires.0 c.requires.1 c.requires.2.3.index _ _ _ _ c.pairs_at.ensures c.star_about-c.ensures.0 c.star_about-c.ensures.1 c.elements_at.ensures in let b = a.fits in omega arith
 
 pub gains_at-requires : goal.gains_at-requires
-gains_at-requires c = let a = around c.args.x c.args.x.room c.args.k c.args.work.now c.requires.0 c.requires.1 c.requires.2.3.index _ _ _ _ c.pairs_at.ensures c.star_about-c.ensures.0 c.star_about-c.ensures.1 c.elements_at.ensures in (a.few, a.fits, a.room)
+gains_at-requires c = let a = around c.args.given.now.index c.args.given.now.index.room c.args.k c.args.work.now c.requires.0 c.requires.1 c.requires.2.3.index _ _ _ _ c.pairs_at.ensures c.star_about-c.ensures.0 c.star_about-c.ensures.1 c.elements_at.ensures in (a.few, a.fits, a.room)
 
 pub returns : goal.returns
-returns c = let a = around c.args.x c.args.x.room c.args.k c.args.work.now c.requires.0 c.requires.1 c.requires.2.3.index _ _ _ _ c.pairs_at.ensures c.star_about-c.ensures.0 c.star_about-c.ensures.1 c.elements_at.ensures in
-    record { value = gain-is c.args.x c.args.x.room c.args.k c.args.work.now c.requires.0 c.requires.1 c.requires.2.3.index a c.args.points.now _ c.gains_at.ensures; same = a.same }
+returns c = let a = around c.args.given.now.index c.args.given.now.index.room c.args.k c.args.work.now c.requires.0 c.requires.1 c.requires.2.3.index _ _ _ _ c.pairs_at.ensures c.star_about-c.ensures.0 c.star_about-c.ensures.1 c.elements_at.ensures in
+    record { value = gain-is c.args.given.now.index c.args.given.now.index.room c.args.k c.args.work.now c.requires.0 c.requires.1 c.requires.2.3.index a c.args.given.now.points.now _ c.gains_at.ensures; same = a.same }

@@ -2,8 +2,5 @@
 use Rattle.repair.proofs.Laws.Gain.Judging.{Seeking}
 use Rattle.repair.proofs.improve.gain.image.Given as goal
 
-abbrev pub invariant-loop-left : goal.invariant-loop-left
-invariant-loop-left l = Seeking l.work l.initial.p l.k l.v l.p l.left
-
-abbrev pub decreases-loop-left : goal.decreases-loop-left
-decreases-loop-left l = l.left
+abbrev pub invariant-loop-i : goal.invariant-loop-i
+invariant-loop-i l = Seeking l.work l.p l.k l.v l.i

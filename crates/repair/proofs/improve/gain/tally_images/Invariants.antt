@@ -5,8 +5,5 @@ use Rattle.repair.specs.inside.Layout.{pairs_in}
 use Rattle.repair.proofs.Laws.Gain.Judging.{Judging}
 use Rattle.repair.proofs.improve.gain.tally_images.Given as goal
 
-abbrev pub invariant-loop-left : goal.invariant-loop-left
-invariant-loop-left l = Judging (measure (points_of l.x.vertices l.points)) l.limit (pairs_in l.x l.k l.work) l.work l.p l.n l.r l.q l.left
-
-abbrev pub decreases-loop-left : goal.decreases-loop-left
-decreases-loop-left l = l.left
+abbrev pub invariant-loop-i : goal.invariant-loop-i
+invariant-loop-i l = Judging (measure (points_of l.given.index.vertices l.given.points.now)) l.limit (pairs_in l.given.index l.k l.work) l.work l.p l.n l.r l.i

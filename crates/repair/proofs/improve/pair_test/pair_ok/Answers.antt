@@ -1,32 +1,20 @@
 -- `repair::improve::pair_test::pair_ok` meets its contract. Assumes nothing.
 use mathlib.Core.Path.{sym, ◌∙◌}
 use native.Mathlib.Omega.{arith}
-use lib.ListN.{length}
-use Rattle.repair.proofs.Laws.Same.{same_refl}
-use Rattle.repair.proofs.Laws.PairOk.Whole.{both_below, rule-fails, ready, decided, left}
+use Rattle.repair.proofs.Laws.PairOk.Whole.{ready, decided, left}
 use Rattle.repair.proofs.improve.pair_test.pair_ok.Goals as goal
 
-pub stratum_rule-requires : goal.stratum_rule-requires
-stratum_rule-requires c = both_below c.args.x c.args.x.room c.args.p c.args.work.now c.requires.room c.requires.stands _ _ _ c.pairs_at.ensures c.word-a.ensures c.word-b.ensures
-
-pub returns-then-not-stratum_rule : goal.returns-then-not-stratum_rule
-returns-then-not-stratum_rule c =
-    record { value = λ o m s hb hm hp z. rule-fails c.args.x c.args.x.room c.args.p c.args.work.now c.requires.room c.requires.stands _ _ _ c.pairs_at.ensures c.word-a.ensures c.word-b.ensures o m s (sym (c.stratum_rule.ensures o m hb hm hp) ∙ c.if-not-stratum_rule.true); same = same_refl c.args.work.now c.args.x.area (length c.args.work.now) }
-
 pub overflow_add-x : goal.overflow_add-x
-overflow_add-x c = let h = (ready c.args.x c.args.x.room c.args.p c.args.work.now c.requires.room c.requires.stands _ _ _ c.pairs_at.ensures c.word-a.ensures c.word-b.ensures _ _ _ c.star-k.ensures.0 c.star-k.ensures.1 c.elements_at.ensures).0 in omega (arith, h)
+overflow_add-x c = let h = (ready c.args.given.now.index c.args.given.now.index.room c.args.p c.args.work.now c.requires.room c.requires.stands _ _ _ c.pairs_at.ensures c.word-a.ensures c.word-b.ensures _ _ _ c.star-k.ensures.0 c.star-k.ensures.1 c.elements_at.ensures).0 in omega (arith, h)
 
 pub elements_link-requires : goal.elements_link-requires
-elements_link-requires c = ready c.args.x c.args.x.room c.args.p c.args.work.now c.requires.room c.requires.stands _ _ _ c.pairs_at.ensures c.word-a.ensures c.word-b.ensures _ _ _ c.star-k.ensures.0 c.star-k.ensures.1 c.elements_at.ensures
-
-pub shape_of-work : goal.shape_of-work
-shape_of-work c = c.elements_link.auto.work ∙ c.elements_at.auto.s ∙ c.star-k.auto.s
+elements_link-requires c = ready c.args.given.now.index c.args.given.now.index.room c.args.p c.args.work.now c.requires.room c.requires.stands _ _ _ c.pairs_at.ensures c.word-a.ensures c.word-b.ensures _ _ _ c.star-k.ensures.0 c.star-k.ensures.1 c.elements_at.ensures
 
 pub returns : goal.returns
 returns c =
     record {
       value = (λ o m s hb hm hp z.
           c.elements_link.ensures.value
-          ∙ decided c.args.x c.args.x.room c.args.p c.args.work.now c.requires.room c.requires.stands _ _ _ c.pairs_at.ensures c.word-a.ensures c.word-b.ensures _ _ _ c.star-k.ensures.0 c.star-k.ensures.1 c.elements_at.ensures o m s _ _ _ hb hm hp (sym (c.stratum_rule.ensures o m hb hm hp) ∙ c.if-not-stratum_rule.false) z);
-      same = left c.args.x c.args.x.room c.args.p c.args.work.now c.requires.room c.requires.stands _ _ _ c.pairs_at.ensures c.word-a.ensures c.word-b.ensures _ _ _ c.star-k.ensures.0 c.star-k.ensures.1 c.elements_at.ensures _ c.elements_link.ensures.same;
+          ∙ decided c.args.given.now.index c.args.given.now.index.room c.args.p c.args.work.now c.requires.room c.requires.stands _ _ _ c.pairs_at.ensures c.word-a.ensures c.word-b.ensures _ _ _ c.star-k.ensures.0 c.star-k.ensures.1 c.elements_at.ensures o m s _ _ _ hb hm hp (sym (c.stratum_rule.ensures o m hb hm hp) ∙ c.if-not-stratum_rule.false) z);
+      same = left c.args.given.now.index c.args.given.now.index.room c.args.p c.args.work.now c.requires.room c.requires.stands _ _ _ c.pairs_at.ensures c.word-a.ensures c.word-b.ensures _ _ _ c.star-k.ensures.0 c.star-k.ensures.1 c.elements_at.ensures _ c.elements_link.ensures.same;
     }

@@ -7,4 +7,4 @@ use Rattle.mesh.proofs.Laws.Intake.Reads.{points-at}
 use Rattle.repair.proofs.improve.partners.cap_at.Goals as goal
 
 pub returns : goal.returns
-returns c = c.cap.ensures ∙ ap (λ (p : Point). cap p c.args.o.bounds) (c.point_at.ensures ∙ ap (point_in c.args.parameters.now) c.wide.ensures.0 ∙ sym (points-at c.args.nv c.args.parameters.now c.args.v zero_point (c.requires)))
+returns c = c.cap.ensures ∙ ap (λ (p : Point). cap p c.args.given.now.options.bounds) (c.point_at.ensures ∙ ap (point_in c.args.given.now.parameters.now) c.wide.ensures.0 ∙ sym (points-at c.args.given.now.index.vertices c.args.given.now.parameters.now c.args.v zero_point (c.requires)))

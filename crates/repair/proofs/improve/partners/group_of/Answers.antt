@@ -11,4 +11,4 @@ use Rattle.repair.proofs.Laws.Pairs.Rows.{group-is}
 use Rattle.repair.proofs.improve.partners.group_of.Goals as goal
 
 pub returns : goal.returns
-returns c = let a = c.args in let e : c.group_start-first.result ≡ first_at_least a.x.vertices 7 (rank_words (rank (point_at (points_of a.x.vertices a.parameters.now) a.v) a.o)) a.work.now = c.group_start-first.ensures ∙ ap₂ (λ (n : ℕ) (p : Point). first_at_least n 7 (rank_words (rank p a.o)) a.work.now) c.wide-n.ensures.0 (sym (points-at a.x.vertices a.parameters.now a.v zero_point c.requires.1)) in group-is c.requires.0 a.v c.requires.1 (record { first = c.group_start-first.result; size = c.run_length.result }) e (c.run_length.ensures ∙ ap₂ (λ (i n : ℕ). run_length i n 7 6 a.work.now) e c.wide-n.ensures.0)
+returns c = let a = c.args in let e : c.group_start-first.result ≡ first_at_least a.given.now.index.vertices 7 (rank_words (rank (point_at (points_of a.given.now.index.vertices a.given.now.parameters.now) a.v) a.given.now.options)) a.work.now = c.group_start-first.ensures ∙ ap₂ (λ (n : ℕ) (p : Point). first_at_least n 7 (rank_words (rank p a.given.now.options)) a.work.now) c.wide-n.ensures.0 (sym (points-at a.given.now.index.vertices a.given.now.parameters.now a.v zero_point c.requires.1)) in group-is c.requires.0 a.v c.requires.1 (record { first = c.group_start-first.result; size = c.run_length.result }) e (c.run_length.ensures ∙ ap₂ (λ (i n : ℕ). run_length i n 7 6 a.work.now) e c.wide-n.ensures.0)

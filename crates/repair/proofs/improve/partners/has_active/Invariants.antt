@@ -2,8 +2,5 @@
 use Rattle.repair.proofs.Laws.Pairs.Walks.{Counted}
 use Rattle.repair.proofs.improve.partners.has_active.Given as goal
 
-abbrev pub invariant-loop-left : goal.invariant-loop-left
-invariant-loop-left l = Counted l.x l.work (record { first = l.initial.i; size = l.initial.left }) l.k l.i l.left l.more
-
-abbrev pub decreases-loop-left : goal.decreases-loop-left
-decreases-loop-left l = l.left
+abbrev pub invariant-loop-i : goal.invariant-loop-i
+invariant-loop-i l = Counted l.x l.work l.fn.g l.k l.i l.more

@@ -1,5 +1,5 @@
 -- `repair::improve::renumber::list_points` meets its contract. The invariant: the points of the first i vertices are listed. Assumes nothing.
-use Rattle.repair.proofs.Laws.Finish.Moved.{pointed-start, pointed-turn, pointed-end}
+use Rattle.repair.proofs.Laws.Finish.Moved.{pointed-start, pointed-turn}
 use Rattle.repair.proofs.improve.renumber.list_points.Goals as goal
 
 pub loop-i-init : goal.loop-i-init
@@ -7,9 +7,3 @@ loop-i-init c = pointed-start c.args.points.now c.args.used c.args.n c.args.area
 
 pub loop-i-preserved : goal.loop-i-preserved
 loop-i-preserved c = pointed-turn c.loop-i.invariant c.requires.0 c.requires.1 c.loop-i-test.true c.word-v.ensures c.point_at-p.ensures c.put_float.ensures c.put_float-in-loop-i.ensures c.put_float-in-loop-i-2.ensures
-
-pub shape_of-floats : goal.shape_of-floats
-shape_of-floats c = c.loop-i.invariant.long
-
-pub returns : goal.returns
-returns c = pointed-end c.loop-i.invariant c.loop-i-test.false

@@ -5,5 +5,5 @@ use Rattle.repair.proofs.improve.renumber.number_word.Goals as goal
 pub returns-then-mark-eq0 : goal.returns-then-mark-eq0
 returns-then-mark-eq0 c = word-new c.args.marks c.args.used c.args.count c.args.p c.args.area.now c.word-v.ensures c.word-mark.ensures c.if-mark-eq0.true c.put_word.ensures c.put_word-then-mark-eq0.ensures c.put_word-then-mark-eq0-2.ensures
 
-pub returns : goal.returns
-returns c = word-old c.args.marks c.args.used c.args.count c.args.p c.args.area.now c.word-v.ensures c.word-mark.ensures c.if-mark-eq0.false c.put_word-2.ensures
+pub returns-else-mark-eq0 : goal.returns-else-mark-eq0
+returns-else-mark-eq0 c = word-old c.args.marks c.args.used c.args.count c.args.p c.args.area.now c.word-v.ensures c.word-mark.ensures c.if-mark-eq0.false c.put_word-else-mark-eq0.ensures

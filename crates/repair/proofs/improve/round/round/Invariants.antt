@@ -1,25 +1,15 @@
 -- `repair::improve::round::round` meets its contract. Assumes nothing.
-use Prim.Native.Nat.{ℕ, ◌-◌}
-use mathlib.Core.List.{List}
+use Prim.Native.Nat.{◌+◌}
+use lib.ListN.{get_or}
+use Rattle.mesh.specs.Element.{pair}
 use Rattle.repair.proofs.Laws.Round.{AtEdge, AtWay, AtPair}
 use Rattle.repair.proofs.improve.round.round.Given as goal
 
 abbrev pub invariant-loop-p : goal.invariant-loop-p
-invariant-loop-p l =
-    (w : List ℕ) → AtPair l.o l.x l.x.room l.count w l.parameters l.points l.masks l.initial.work l.replaced l.i l.e l.d l.k l.initial.p → AtPair l.o l.x l.x.room l.count w l.parameters l.points l.masks l.work l.replaced l.i l.e l.d l.k l.p
-
-abbrev pub decreases-loop-p : goal.decreases-loop-p
-decreases-loop-p l = l.k - l.p
+invariant-loop-p l = AtPair l.given.options l.given.index l.given.index.room l.count l.fn.work l.given.parameters.now l.given.points.now l.given.masks.now l.work l.replaced (l.i + 1) (get_or l.t-items 0 (pair 0 0)) (l.t-index + 1) l.k l.p
 
 abbrev pub invariant-directions : goal.invariant-directions
-invariant-directions l =
-    (w : List ℕ) → AtWay l.o l.x l.x.room l.count w l.parameters l.points l.masks l.initial.work l.initial.replaced l.i l.e l.initial.d → AtWay l.o l.x l.x.room l.count w l.parameters l.points l.masks l.work l.replaced l.i l.e l.d
-
-abbrev pub decreases-directions : goal.decreases-directions
-decreases-directions l = 2 - l.d
+invariant-directions l = AtWay l.given.options l.given.index l.given.index.room l.count l.fn.work l.given.parameters.now l.given.points.now l.given.masks.now l.work l.replaced (l.i + 1) (get_or l.t-items 0 (pair 0 0)) l.t-index
 
 abbrev pub invariant-edges : goal.invariant-edges
-invariant-edges l = AtEdge l.o l.x l.x.room l.count l.initial.work l.parameters l.points l.masks l.work l.replaced l.i
-
-abbrev pub decreases-edges : goal.decreases-edges
-decreases-edges l = l.count - l.i
+invariant-edges l = AtEdge l.given.options l.given.index l.given.index.room l.count l.fn.work l.given.parameters.now l.given.points.now l.given.masks.now l.work l.replaced l.i

@@ -1,14 +1,11 @@
--- `row::rows_at` meets its contract. The invariant: the rows before i are those of the fields. Assumes nothing.
-use mathlib.Core.Path.{◌≡◌}
-use mathlib.Core.List.{map}
-use Prim.Native.Nat.{◌-◌, ◌≤◌}
-use lib.ListN.{length, take}
+-- `field_rows::rows_at` meets its contract. The invariant: the rows before i are those of the fields, and what is left of the tests is the whole.
+-- Assumes nothing.
+use Rattle.std.proofs.Common.{◌≡◌, map, length, take, drop}
+use Rattle.mesh.specs.Tests.{every}
 use Rattle.repair.specs.Project.{usable, normalised}
-use Rattle.repair.specs.inside.project.Solve.{row_of}
+use Rattle.repair.specs.inside.project.Solve.{rows_of}
 use Rattle.repair.proofs.project.field_rows.rows_at.Given as goal
 
 abbrev pub invariant-loop-i : goal.invariant-loop-i
-invariant-loop-i l = (l.i ≤ l.n) × (length l.rows ≡ 8) × (map (λ s. s.usable) (take l.i l.rows) ≡ map (usable l.p) (take l.i l.active)) × (map row_of (take l.i l.rows) ≡ map (normalised l.p) (take l.i l.active))
-
-abbrev pub decreases-loop-i : goal.decreases-loop-i
-decreases-loop-i l = l.n - l.i
+invariant-loop-i l =
+    (length l.rows ≡ 8) × (every (usable l.p) (drop l.i l.active) ≡ every (usable l.p) l.active) × (rows_of (take l.i l.rows) ≡ map (normalised l.p) (take l.i l.active))

@@ -7,6 +7,3 @@ use Rattle.repair.proofs.project.matrix.pivot.Given as goal
 
 abbrev pub invariant-loop-i : goal.invariant-loop-i
 invariant-loop-i l = (l.best < l.n) × (l.i ≤ l.n) × (pivot (window l.n l.m) l.k l.best l.i (l.n - l.i) ≡ pivot (window l.n l.m) l.k l.k (l.k + 1) (l.n - (l.k + 1)))
-
-abbrev pub decreases-loop-i : goal.decreases-loop-i
-decreases-loop-i l = l.n - l.i

@@ -7,6 +7,3 @@ use Rattle.repair.proofs.project.matrix.solve.Given as goal
 
 abbrev pub invariant-loop-k : goal.invariant-loop-k
 invariant-loop-k l = (l.k ≤ l.n) × Shaped l.m × (solved l.k (l.n - l.k) (window l.n l.m) ≡ solved 0 l.n (window l.n l.initial.m))
-
-abbrev pub decreases-loop-k : goal.decreases-loop-k
-decreases-loop-k l = l.n - l.k

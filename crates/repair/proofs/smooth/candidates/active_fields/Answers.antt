@@ -1,20 +1,31 @@
--- `repair::smooth::candidates::active_fields` meets its contract. The invariant: the first n of r and the fields left are the fields chosen. Assumes nothing.
-use mathlib.Core.Path.{refl, ◌∙◌}
-use native.Mathlib.Omega.{arith}
+-- `candidates::active_fields` meets its contract. The invariant: the first n of `active` and the fields left are the fields chosen. Assumes nothing.
+use Rattle.std.proofs.Common.{◌≡◌, ◌≤◌, ◌+◌, ◌/◌, ◌∙◌, ◌++◌, length, take, drop, ap, arith}
+use lib.ListN.{length-set}
 use lib.Ieee.{nan}
-use lib.ListN.{get_or, length-set}
 use Rattle.geometry.specs.declared.field.Field.TheVariants.{Level}
-use Rattle.repair.proofs.Laws.Candidate.Chosen.{gather-turn, gather-end, low-few}
+use Rattle.repair.specs.Smooth.{chosen}
+use Rattle.repair.proofs.Laws.Candidate.Chosen.{gather-put, gather-skip, gather-end}
+use Rattle.repair.proofs.smooth.candidates.active_fields.Goals.{then-bits-eq1, else-bits-eq1}
 use Rattle.repair.proofs.smooth.candidates.active_fields.Goals as goal
 
-pub loop-i-init : goal.loop-i-init
-loop-i-init c = (omega arith, omega arith, c.well_formed.1.0.1.0.1, omega (arith, c.least-m.ensures), refl)
-
-pub overflow_add-n : goal.overflow_add-n
-overflow_add-n c = let e = low-few c.loop-i.bits c.low_bit-n.result c.low_bit-n.ensures in omega arith
-
-pub loop-i-preserved : goal.loop-i-preserved
-loop-i-preserved c = let e = low-few c.loop-i.bits c.low_bit-n.result c.low_bit-n.ensures in (omega arith, omega arith, length-set c.loop-i.r c.loop-i.n (get_or c.args.fields c.loop-i.i (Level nan)) ∙ c.loop-i.invariant.2, c.loop-i.invariant.3, gather-turn c.args.mask c.args.fields c.args.count c.least-m.result (Level nan) c.well_formed.1.0.1.0.1 c.least-m.ensures c.loop-i.bits c.loop-i.i c.loop-i.n c.low_bit-n.result c.loop-i.r c.loop-i-test.true (omega arith) c.low_bit-n.ensures c.loop-i.invariant.4)
+pub loop-f-preserved : goal.loop-f-preserved
+loop-f-preserved c =
+    let F = c.args.fields.now in
+    let l = c.loop-f in
+    let i = l.f-index in
+    let j = c.if-bits-eq1 in
+    let long : length j.active ≡ 8 = elim j.branch [
+      | then-bits-eq1 w ↦ ap length w.active-is ∙ length-set l.active l.n _ ∙ l.invariant.0
+      | else-bits-eq1 w ↦ ap length w.active-is ∙ l.invariant.0
+    ] in
+    let few : j.n ≤ i + 1 = elim j.branch [ then-bits-eq1 w ↦ omega (arith, w.n-is) | else-bits-eq1 w ↦ omega (arith, w.n-is) ] in
+    let rest : take j.n j.active ++ chosen (l.bits / 2) (drop (i + 1) F) ≡ chosen c.args.mask F = elim j.branch [
+      | then-bits-eq1 w ↦ (λ t. take (w.n-is t) (w.active-is t) ++ chosen (l.bits / 2) (drop (i + 1) F)) ∙ gather-put F i l.bits l.n l.active (Level nan) c.loop-f-test.true (omega arith) w.if-bits-eq1.true l.invariant.2
+      | else-bits-eq1 w ↦ (λ t. take (w.n-is t) (w.active-is t) ++ chosen (l.bits / 2) (drop (i + 1) F)) ∙ gather-skip F i l.bits l.n l.active (Level nan) c.loop-f-test.true w.if-bits-eq1.false l.invariant.2
+    ] in
+    (long, few, rest)
 
 pub returns : goal.returns
-returns c = gather-end c.args.mask c.args.fields c.args.count c.least-m.result (Level nan) c.well_formed.1.0.1.0.1 c.least-m.ensures c.loop-i.bits c.loop-i.i c.loop-i.n c.loop-i.r c.loop-i-test.false (omega arith) c.loop-i.invariant.4
+returns c =
+    let l = c.loop-f in
+    (l.invariant.0, omega arith, gather-end c.args.fields.now l.f-index l.bits l.n l.active c.loop-f-test.false l.invariant.2)

@@ -1,23 +1,51 @@
--- `repair::smooth::candidates::allowed` meets its contract, test by test. Assumes nothing.
-use lib.Ieee.{of_bits}
-use Rattle.std.proofs.Common.{ap, not}
-use lib.ListN.{take}
-use Rattle.mesh.proofs.Laws.Intake.Chains.{fails_by, holds_by}
-use Rattle.repair.specs.Step.{regions_of}
-use Rattle.repair.proofs.Laws.Candidate.Tests.{too_far, none-active, some-active}
+-- `candidates::allowed` meets its contract, test by test. Assumes nothing.
+use Rattle.std.proofs.Common.{◌≡◌, Bool, not, ◌&&◌, ◌||◌, ◌∙◌, sym, ap, length, eqb}
+use lib.Ieee.{lt, of_bits}
+use Rattle.geometry.specs.Float.{◌*₆₄◌}
+use Rattle.geometry.specs.Literals.{half}
+use Rattle.geometry.specs.Point.{difference, norm}
+use Rattle.geometry.specs.Bounds.{spacing}
+use Rattle.mesh.specs.Intake.{in_box}
+use Rattle.repair.specs.Smooth.{outside_all}
+use Rattle.repair.specs.inside.smooth.Candidates.{regions_in}
+use Rattle.repair.proofs.Laws.Candidate.Tests.{third, no_third}
+use Rattle.repair.proofs.smooth.candidates.allowed.Goals.{then-in_box, else-in_box}
 use Rattle.repair.proofs.smooth.candidates.allowed.Goals as goal
 
-pub returns-then-not-in_box : goal.returns-then-not-in_box
-returns-then-not-in_box c = rw (fails_by c.in_box.ensures (ap not c.if-not-in_box.true))
-
-pub returns-then-spacing-norm : goal.returns-then-spacing-norm
+pub returns-then-is_empty : goal.returns-then-is_empty
 unfolding of_bits
-returns-then-spacing-norm c = too_far c.args.o (take c.args.count c.args.fields) (regions_of c.args.listed c.args.regions.now) c.args.origin c.args.p c.sub.result c.args.active c.spacing.result c.norm.result (holds_by c.in_box.ensures (ap not c.if-not-in_box.false)) c.spacing.ensures c.sub.ensures c.norm.ensures c.if-spacing-norm.true
+returns-then-is_empty c =
+    let o = c.args.o in
+    let p = c.args.p in
+    let far = lt (half *₆₄ spacing o) (norm (difference p c.args.origin)) in
+    let k : c.if-in_box.value ≡ (in_box o.bounds p && not far) = elim c.if-in_box.branch [
+      | then-in_box w ↦ w.value-is ∙ (λ i. not (lt (half *₆₄ w.spacing.ensures i) ((w.norm.ensures ∙ ap norm w.sub.ensures) i))) ∙ ap (λ (b : Bool). b && not far) (sym w.if-in_box.true ∙ c.in_box.ensures)
+      | else-in_box w ↦ w.value-is ∙ w.if-in_box.false ∙ ap (λ (b : Bool). b && not far) (sym w.if-in_box.false ∙ c.in_box.ensures)
+    ] in
+    third (in_box o.bounds p) (not far) k c.if-not-spacing-norm.true
+    (c.if-is_empty.true ∙ sym (ap (λ (b : Bool). b || not (outside_all p c.args.fields.now (regions_in c.args.regions))) (sym c.if-is_empty.ensures)))
 
-pub returns-then-active-eq0 : goal.returns-then-active-eq0
+pub returns-else-is_empty : goal.returns-else-is_empty
 unfolding of_bits
-returns-then-active-eq0 c = none-active c.args.o (take c.args.count c.args.fields) (regions_of c.args.listed c.args.regions.now) c.args.origin c.args.p c.sub.result c.args.active c.spacing.result c.norm.result (holds_by c.in_box.ensures (ap not c.if-not-in_box.false)) c.spacing.ensures c.sub.ensures c.norm.ensures c.if-spacing-norm.false c.if-active-eq0.true
+returns-else-is_empty c =
+    let o = c.args.o in
+    let p = c.args.p in
+    let far = lt (half *₆₄ spacing o) (norm (difference p c.args.origin)) in
+    let k : c.if-in_box.value ≡ (in_box o.bounds p && not far) = elim c.if-in_box.branch [
+      | then-in_box w ↦ w.value-is ∙ (λ i. not (lt (half *₆₄ w.spacing.ensures i) ((w.norm.ensures ∙ ap norm w.sub.ensures) i))) ∙ ap (λ (b : Bool). b && not far) (sym w.if-in_box.true ∙ c.in_box.ensures)
+      | else-in_box w ↦ w.value-is ∙ w.if-in_box.false ∙ ap (λ (b : Bool). b && not far) (sym w.if-in_box.false ∙ c.in_box.ensures)
+    ] in
+    third (in_box o.bounds p) (not far) k c.if-not-spacing-norm.true
+    (ap not c.outside_all.ensures ∙ sym (ap (λ (b : Bool). b || not (outside_all p c.args.fields.now (regions_in c.args.regions))) (sym c.if-is_empty.ensures)))
 
-pub returns : goal.returns
+pub returns-else-not-spacing-norm : goal.returns-else-not-spacing-norm
 unfolding of_bits
-returns c = some-active c.args.o (take c.args.count c.args.fields) (regions_of c.args.listed c.args.regions.now) c.args.origin c.args.p c.sub.result c.args.active c.spacing.result c.norm.result (holds_by c.in_box.ensures (ap not c.if-not-in_box.false)) c.spacing.ensures c.sub.ensures c.norm.ensures c.outside_all.result c.if-spacing-norm.false c.if-active-eq0.false c.outside_all.ensures
+returns-else-not-spacing-norm c =
+    let o = c.args.o in
+    let p = c.args.p in
+    let far = lt (half *₆₄ spacing o) (norm (difference p c.args.origin)) in
+    let k : c.if-in_box.value ≡ (in_box o.bounds p && not far) = elim c.if-in_box.branch [
+      | then-in_box w ↦ w.value-is ∙ (λ i. not (lt (half *₆₄ w.spacing.ensures i) ((w.norm.ensures ∙ ap norm w.sub.ensures) i))) ∙ ap (λ (b : Bool). b && not far) (sym w.if-in_box.true ∙ c.in_box.ensures)
+      | else-in_box w ↦ w.value-is ∙ w.if-in_box.false ∙ ap (λ (b : Bool). b && not far) (sym w.if-in_box.false ∙ c.in_box.ensures)
+    ] in
+    no_third (in_box o.bounds p) (not far) (eqb (length c.args.active.now) 0 || not (outside_all p c.args.fields.now (regions_in c.args.regions))) k c.if-not-spacing-norm.false

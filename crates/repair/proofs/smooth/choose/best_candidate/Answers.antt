@@ -1,57 +1,44 @@
--- `repair::smooth::choose::best_candidate` meets its contract. The invariant: the best of the candidates left, from the best so far, is the best of all. Assumes nothing.
-use mathlib.Core.Path.{refl, sym, ap, ap₂, ◌∙◌}
-use native.Mathlib.Omega.{arith}
-use lib.ListN.{take, drop}
-use Rattle.repair.specs.Project.{project}
-use Rattle.repair.specs.Smooth.{tried, best_of}
-use Rattle.repair.specs.inside.smooth.Candidates.{nine}
-use Rattle.repair.specs.Step.{regions_of}
-use Rattle.repair.specs.inside.smooth.Site.{members, about, state_of, best_in, compared, none_yet, start_list}
-use Rattle.repair.proofs.Laws.Site.Best.{active-long, active-is, tried-is, first-few, best-turn, best-end}
+-- `choose::best_candidate` meets its contract. The invariant: the best of the candidates left, from the best so far, is the best of all. Assumes nothing.
+use Rattle.std.proofs.Common.{◌-◌, ◌∙◌, take, drop, refl, sym, ap}
+use Rattle.repair.specs.Smooth.{best_of}
+use Rattle.repair.specs.inside.smooth.Candidates.{regions_in}
+use Rattle.repair.specs.inside.smooth.Site.{members, about, state_of, best_in, compared, none_yet}
+use Rattle.repair.proofs.Laws.Site.Best.{tried-is, best-turn, best-end, start-items}
 use Rattle.repair.proofs.smooth.choose.best_candidate.Goals as goal
 
-pub loop-k-init : goal.loop-k-init
-loop-k-init c = (first-few c.args.start _ c.first_candidate-k.ensures, refl)
+pub loop-c-init : goal.loop-c-init
+loop-c-init c = refl
 
-pub permitted-q-requires : goal.permitted-q-requires
-permitted-q-requires c = active-long c.active_fields-active.result c.active_count-m.result c.active_count-m.ensures c.active_fields-active.ensures
-
-pub try_candidate-best-requires : goal.try_candidate-best-requires
-try_candidate-best-requires c = c.requires
-
-pub loop-k-preserved : goal.loop-k-preserved
-loop-k-preserved c =
-    let a = c.args in
-    let o = a.s.options in
-    let F = take a.s.count a.fields in
-    let R = regions_of a.listed a.regions.now in
-    let ts = about a.elements.now a.work.now a.site.area a.site.about in
-    let s = state_of a.site.vertices a.parameters.now a.points.now 0 in
-    let g = members a.work.now a.site.group a.site.count in
-    let act = take c.active_count-m.result c.active_fields-active.result in
-    let l = c.loop-k in
-    let b = a.start in (
-      omega (arith, c.loop-k-test.true),
-      best-turn o F R ts s g b.origin act b.original b.mean c.spacing-h.result l.k (best_in l.best) _ c.loop-k-test.true
-          (c.try_candidate-best.ensures ∙ ap (compared o ts s g (best_in l.best)) c.permitted-q.ensures
-          ∙ tried-is o F R ts s g b.origin act (best_in l.best) (project o.bounds b.origin act c.candidate-c.result)
-          ∙ ap (λ q. tried o F R ts s g b.origin act (best_in l.best) (project o.bounds b.origin act q)) c.candidate-c.ensures)
-          ∙ l.invariant.1,
-    )
+pub loop-c-preserved : goal.loop-c-preserved
+loop-c-preserved c =
+    let x = c.args.x in
+    let o = x.options in
+    let F = c.args.fields.now in
+    let R = regions_in c.args.regions in
+    let ts = about x.elements.now x.work.now x.site.area x.site.about in
+    let s = state_of x.site.vertices x.parameters.now x.points.now 0 in
+    let g = members x.work.now x.site.group x.site.count in
+    let origin = c.args.start.origin in
+    let active = take c.active_fields-n.result.1 c.active_fields-n.result.0 in
+    let items = take (9 - c.first_candidate.result) (drop c.first_candidate.result c.candidates-nine.result) in
+    let l = c.loop-c in
+    best-turn o F R ts s g origin active items l.c-index _ (best_in l.best) _ c.loop-c-test.true
+    (c.try_candidate-best.ensures ∙ ap (compared o ts s g (best_in l.best)) c.permitted-p.ensures ∙ tried-is o F R ts s g origin active (best_in l.best) _)
+    ∙ l.invariant
 
 pub returns : goal.returns
-unfolding start_list
 returns c =
-    let a = c.args in
-    let o = a.s.options in
-    let F = take a.s.count a.fields in
-    let R = regions_of a.listed a.regions.now in
-    let ts = about a.elements.now a.work.now a.site.area a.site.about in
-    let s = state_of a.site.vertices a.parameters.now a.points.now 0 in
-    let g = members a.work.now a.site.group a.site.count in
-    let act = take c.active_count-m.result c.active_fields-active.result in
-    let l = c.loop-k in
-    let b = a.start in
-    sym (best-end o F R ts s g b.origin act b.original b.mean c.spacing-h.result l.k (best_in l.best) l.invariant.0 c.loop-k-test.false) ∙ l.invariant.1
-    ∙ ap₂ (λ h i. best_of o F R ts s g b.origin act (none_yet a.lowest) (drop i (nine b.original b.origin b.mean h))) c.spacing-h.ensures c.first_candidate-k.ensures
-    ∙ ap (λ u. best_of o F R ts s g b.origin u (none_yet a.lowest) (start_list b o)) (active-is c.active_fields-active.result c.active_count-m.result c.active_count-m.ensures c.active_fields-active.ensures)
+    let x = c.args.x in
+    let o = x.options in
+    let F = c.args.fields.now in
+    let R = regions_in c.args.regions in
+    let ts = about x.elements.now x.work.now x.site.area x.site.about in
+    let s = state_of x.site.vertices x.parameters.now x.points.now 0 in
+    let g = members x.work.now x.site.group x.site.count in
+    let origin = c.args.start.origin in
+    let active = take c.active_fields-n.result.1 c.active_fields-n.result.0 in
+    let items = take (9 - c.first_candidate.result) (drop c.first_candidate.result c.candidates-nine.result) in
+    let l = c.loop-c in
+    let e = start-items c.args.start o c.candidates-nine.result c.first_candidate.result c.spacing.result c.candidates-nine.ensures c.spacing.ensures c.first_candidate.ensures in
+    sym (best-end o F R ts s g origin active items l.c-index (best_in l.best) c.loop-c-test.false) ∙ l.invariant
+    ∙ (λ j. best_of o F R ts s g origin (c.active_fields-n.ensures.2 j) (none_yet c.args.lowest) (e j))

@@ -1,18 +1,16 @@
--- `repair::smooth::choose::best_candidate` meets its contract. The invariant: the best of the candidates left, from the best so far, is the best of all. Assumes nothing.
-use mathlib.Core.Path.{◌≡◌}
-use Prim.Native.Nat.{◌-◌, ◌≤◌}
-use lib.ListN.{take}
-use Rattle.repair.specs.Step.{regions_of}
+-- `choose::best_candidate` meets its contract. The invariant: the best of the candidates left, from the best so far, is the best of all. Assumes nothing.
+use Rattle.std.proofs.Common.{◌≡◌, List, take, drop}
+use Rattle.geometry.specs.declared.point.Point.{Point}
+use Rattle.repair.specs.Smooth.{Best, best_of}
+use Rattle.repair.specs.inside.smooth.Candidates.{regions_in}
 use Rattle.repair.specs.inside.smooth.Site.{members, about, state_of, best_in, none_yet}
-use Rattle.repair.proofs.Laws.Site.Best.{best_from}
 use Rattle.repair.proofs.smooth.choose.best_candidate.Given as goal
 
-abbrev pub invariant-loop-k : goal.invariant-loop-k
-invariant-loop-k l =
-    (l.k ≤ 9) × (best_from l.o (take l.s.count l.fields) (regions_of l.listed l.regions) (about l.elements l.work l.site.area l.site.about) (state_of l.site.vertices l.parameters l.points 0)
-    (members l.work l.site.group l.site.count) l.origin (take l.m l.active) l.original l.mean l.h l.k (best_in l.best)
-    ≡ best_from l.o (take l.s.count l.fields) (regions_of l.listed l.regions) (about l.elements l.work l.site.area l.site.about) (state_of l.site.vertices l.parameters l.points 0)
-    (members l.work l.site.group l.site.count) l.origin (take l.m l.active) l.original l.mean l.h l.initial.k (none_yet l.lowest))
-
-abbrev pub decreases-loop-k : goal.decreases-loop-k
-decreases-loop-k l = 9 - l.k
+abbrev pub invariant-loop-c : goal.invariant-loop-c
+invariant-loop-c l =
+    let x = l.x in
+    let ts = about x.elements.now x.work.now x.site.area x.site.about in
+    let s = state_of x.site.vertices x.parameters.now x.points.now 0 in
+    let g = members x.work.now x.site.group x.site.count in
+    let best : Best → List Point → Best = best_of l.o l.fields (regions_in l.regions) ts s g l.start.origin (take l.n l.active) in
+    best (best_in l.best) (drop l.c-index l.c-items) ≡ best (none_yet l.lowest) l.c-items

@@ -1,36 +1,25 @@
--- `repair::smooth::choose::permitted` meets its contract. Assumes nothing.
-use mathlib.Core.Path.{sym, ap, ◌∙◌}
-use Rattle.std.proofs.Common.{not}
-use mathlib.Core.Bool.{true, false}
-use lib.ListN.{take}
-use Rattle.mesh.proofs.Laws.Intake.Chains.{fails_by, holds_by}
-use Rattle.repair.specs.Step.{regions_of}
+-- `choose::permitted` meets its contract. Assumes nothing.
+use Rattle.std.proofs.Common.{true, false, ◌∙◌, sym, ap}
+use Rattle.repair.specs.inside.smooth.Candidates.{regions_in}
 use Rattle.repair.specs.inside.smooth.Site.{permitted}
 use Rattle.repair.proofs.Laws.Site.Best.{permitted-by}
 use Rattle.repair.proofs.smooth.choose.permitted.Goals as goal
 
+pub returns-in_err-p : goal.returns-in_err-p
+returns-in_err-p c =
+    let a = c.args in
+    c.from_residual.ensures ∙ ap (permitted a.o a.fields.now (regions_in a.regions) a.origin a.active.now) (sym c.in_err-p.was ∙ c.project.ensures)
+
 pub returns-then-not-allowed : goal.returns-then-not-allowed
 returns-then-not-allowed c =
     let a = c.args in
-    let F = take a.s.count a.fields in
-    let R = regions_of a.listed a.regions.now in
-    let act = take a.m a.active in
-    permitted-by a.s.options F R a.origin act _ a.m false c.requires (fails_by c.allowed.ensures (ap not c.if-not-allowed.true))
-    ∙ ap (permitted a.s.options F R a.origin act) (sym c.in-Found.is ∙ c.project_candidate-q.ensures)
+    let R = regions_in a.regions in
+    permitted-by a.o a.fields.now R a.origin a.active.now _ false (sym c.if-not-allowed.true ∙ c.allowed.ensures)
+    ∙ ap (permitted a.o a.fields.now R a.origin a.active.now) (sym c.in_ok-p.was ∙ c.project.ensures)
 
-pub returns-in-Nothing : goal.returns-in-Nothing
-returns-in-Nothing c =
+pub returns : goal.returns
+returns c =
     let a = c.args in
-    let F = take a.s.count a.fields in
-    let R = regions_of a.listed a.regions.now in
-    let act = take a.m a.active in
-    ap (permitted a.s.options F R a.origin act) (sym c.in-Nothing.is ∙ c.project_candidate-q.ensures)
-
-pub returns-else-not-allowed : goal.returns-else-not-allowed
-returns-else-not-allowed c =
-    let a = c.args in
-    let F = take a.s.count a.fields in
-    let R = regions_of a.listed a.regions.now in
-    let act = take a.m a.active in
-    permitted-by a.s.options F R a.origin act _ a.m true c.requires (holds_by c.allowed.ensures (ap not c.if-not-allowed.false))
-    ∙ ap (permitted a.s.options F R a.origin act) (sym c.in-Found.is ∙ c.project_candidate-q.ensures)
+    let R = regions_in a.regions in
+    permitted-by a.o a.fields.now R a.origin a.active.now _ true (sym c.if-not-allowed.false ∙ c.allowed.ensures)
+    ∙ ap (permitted a.o a.fields.now R a.origin a.active.now) (sym c.in_ok-p.was ∙ c.project.ensures)

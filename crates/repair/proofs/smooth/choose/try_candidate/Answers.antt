@@ -1,26 +1,23 @@
--- `repair::smooth::choose::try_candidate` meets its contract. Assumes nothing.
-use mathlib.Core.Path.{sym, ap, ◌∙◌}
+-- `choose::try_candidate` meets its contract. Assumes nothing.
+use Rattle.std.proofs.Common.{◌∙◌, sym, ap}
 use Rattle.repair.specs.inside.smooth.Site.{members, about, state_of, trial_points, best_in, compared}
-use Rattle.repair.proofs.Laws.Site.Best.{compared-found}
+use Rattle.repair.proofs.Laws.Site.Best.{compared-better, compared-worse}
 use Rattle.repair.proofs.smooth.choose.try_candidate.Goals as goal
 
-pub try_point-t-requires : goal.try_point-t-requires
-try_point-t-requires c = c.requires
-
-pub returns-in-Nothing : goal.returns-in-Nothing
-returns-in-Nothing c =
-    let a = c.args in
-    let ts = about a.elements.now a.work.now a.site.area a.site.about in
-    let s = state_of a.site.vertices a.parameters.now a.points.now 0 in
-    let g = members a.work.now a.site.group a.site.count in
-    ap (compared a.o ts s g (best_in a.best)) (sym c.in-Nothing.is)
-
-pub returns-in-Found : goal.returns-in-Found
+pub returns-in-None : goal.returns-in-None
 unfolding trial_points lib.Ieee.of_bits
-returns-in-Found c =
-    let a = c.args in
-    let ts = about a.elements.now a.work.now a.site.area a.site.about in
-    let s = state_of a.site.vertices a.parameters.now a.points.now 0 in
-    let g = members a.work.now a.site.group a.site.count in
-    compared-found a.o ts s g a.best _ c.try_point-t.result _ c.try_point-t.ensures.better_value c.try_point-t.ensures.lowest_value c.better.ensures
-    ∙ ap (compared a.o ts s g (best_in a.best)) (sym c.in-Found.is)
+returns-in-None c =
+    let x = c.args.x in
+    let ts = about x.elements.now x.work.now x.site.area x.site.about in
+    let s = state_of x.site.vertices x.parameters.now x.points.now 0 in
+    let g = members x.work.now x.site.group x.site.count in
+    compared-worse x.options ts s g c.args.best c.in-Some.p c.in-None.ensures ∙ ap (compared x.options ts s g (best_in c.args.best)) (sym c.in-Some.is)
+
+pub returns-in-Some-try_point : goal.returns-in-Some-try_point
+unfolding trial_points lib.Ieee.of_bits
+returns-in-Some-try_point c =
+    let x = c.args.x in
+    let ts = about x.elements.now x.work.now x.site.area x.site.about in
+    let s = state_of x.site.vertices x.parameters.now x.points.now 0 in
+    let g = members x.work.now x.site.group x.site.count in
+    compared-better x.options ts s g c.args.best c.in-Some.p c.in-Some-try_point.lowest c.in-Some-try_point.ensures.0 c.in-Some-try_point.ensures.1 ∙ ap (compared x.options ts s g (best_in c.args.best)) (sym c.in-Some.is)

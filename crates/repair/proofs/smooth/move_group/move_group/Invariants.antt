@@ -8,6 +8,3 @@ abbrev pub invariant-loop-k : goal.invariant-loop-k
 invariant-loop-k l =
     (l.k ≤ l.s.count) × Placed l.s.vertices (new_parameters l.o l.s.vertices l.initial.parameters l.p) (tail l.work l.s.group l.s.count l.k) l.initial.parameters l.parameters
     × Placed l.s.vertices (new_point l.o l.s.vertices l.initial.parameters l.p) (tail l.work l.s.group l.s.count l.k) l.initial.points l.points
-
-abbrev pub decreases-loop-k : goal.decreases-loop-k
-decreases-loop-k l = l.k

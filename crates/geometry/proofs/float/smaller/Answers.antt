@@ -1,9 +1,0 @@
--- `geometry::float::smaller` meets its contract: the test that led here picks the definition's case. Assumes nothing.
-
-use Rattle.geometry.proofs.float.smaller.Goals as goal
-
-pub returns-then-b-a : goal.returns-then-b-a
-returns-then-b-a c = rw c.if-b-a.true
-
-pub returns-else-b-a : goal.returns-else-b-a
-returns-else-b-a c = rw c.if-b-a.false

@@ -1,0 +1,50 @@
+-- `mesh::list::bad_rows_in` meets its contract: the bad elements, their rows, and the rows as a set. Assumes nothing.
+use Rattle.std.proofs.Common.{length, sym, ◌∙◌, arith}
+use Rattle.mesh.specs.Words.{points_in}
+use Rattle.mesh.specs.Complex.{keep}
+use Rattle.mesh.specs.inside.Euler.{spread}
+use Rattle.mesh.specs.inside.List.{set_of, bad_in}
+use Rattle.mesh.proofs.Laws.List.Rows.{fits-is, in-no}
+use Rattle.mesh.proofs.Laws.List.Whole.{each-few, few, ready, sortable, listing}
+use Rattle.mesh.specs.inside.List.{list_fits}
+use Rattle.mesh.proofs.list.bad_rows_in.Goals as goal
+
+pub returns-then-not-fits : goal.returns-then-not-fits
+unfolding list_fits
+returns-then-not-fits g c = let a = c.args in in-no (λ ts. set_of (spread g.S.Simplices.rows_of (keep (bad_in (points_in a.points)) ts))) (points_in a.points) a.n a.area.now (sym c.fits.ensures ∙ c.if-not-fits.true)
+
+pub list_bad-elements-requires : goal.list_bad-elements-requires
+unfolding list_fits
+list_bad-elements-requires g c = let a = c.args in let f = sym c.fits.ensures ∙ c.if-not-fits.false in fits-is a.n (length a.area.now) f
+
+pub overflow_mul-n : goal.overflow_mul-n
+unfolding list_fits
+overflow_mul-n g c = let a = c.args in let f = sym c.fits.ensures ∙ c.if-not-fits.false in omega (arith, (few c.requires (points_in a.points) a.n c.list_bad-elements.result a.area.now c.list_bad-elements.new.area f c.list_bad-elements.ensures.0 c.list_bad-elements.ensures.1).0)
+
+pub rows_from-requires : goal.rows_from-requires
+unfolding list_fits
+rows_from-requires g c = let a = c.args in let f = sym c.fits.ensures ∙ c.if-not-fits.false in ready c.requires (points_in a.points) a.n c.list_bad-elements.result a.area.now c.list_bad-elements.new.area f c.list_bad-elements.ensures.0 c.list_bad-elements.ensures.1
+
+pub overflow_mul-n-2 : goal.overflow_mul-n-2
+unfolding list_fits
+overflow_mul-n-2 g c = let a = c.args in let f = sym c.fits.ensures ∙ c.if-not-fits.false in omega (arith, (few c.requires (points_in a.points) a.n c.list_bad-elements.result a.area.now c.list_bad-elements.new.area f c.list_bad-elements.ensures.0 c.list_bad-elements.ensures.1).0)
+
+pub overflow_mul-elements : goal.overflow_mul-elements
+unfolding list_fits
+overflow_mul-elements g c = let a = c.args in let f = sym c.fits.ensures ∙ c.if-not-fits.false in omega (arith, (few c.requires (points_in a.points) a.n c.list_bad-elements.result a.area.now c.list_bad-elements.new.area f c.list_bad-elements.ensures.0 c.list_bad-elements.ensures.1).0, (few c.requires (points_in a.points) a.n c.list_bad-elements.result a.area.now c.list_bad-elements.new.area f c.list_bad-elements.ensures.0 c.list_bad-elements.ensures.1).1)
+
+pub overflow_add-n : goal.overflow_add-n
+unfolding list_fits
+overflow_add-n g c = let a = c.args in let f = sym c.fits.ensures ∙ c.if-not-fits.false in omega (arith, (few c.requires (points_in a.points) a.n c.list_bad-elements.result a.area.now c.list_bad-elements.new.area f c.list_bad-elements.ensures.0 c.list_bad-elements.ensures.1).0, (few c.requires (points_in a.points) a.n c.list_bad-elements.result a.area.now c.list_bad-elements.new.area f c.list_bad-elements.ensures.0 c.list_bad-elements.ensures.1).1)
+
+pub overflow_mul-elements-2 : goal.overflow_mul-elements-2
+unfolding list_fits
+overflow_mul-elements-2 g c = let a = c.args in let f = sym c.fits.ensures ∙ c.if-not-fits.false in omega (arith, (few c.requires (points_in a.points) a.n c.list_bad-elements.result a.area.now c.list_bad-elements.new.area f c.list_bad-elements.ensures.0 c.list_bad-elements.ensures.1).0, (few c.requires (points_in a.points) a.n c.list_bad-elements.result a.area.now c.list_bad-elements.new.area f c.list_bad-elements.ensures.0 c.list_bad-elements.ensures.1).1, each-few c.requires c.list_bad-elements.result)
+
+pub set_from-rows-requires : goal.set_from-rows-requires
+unfolding list_fits
+set_from-rows-requires g c = let a = c.args in let f = sym c.fits.ensures ∙ c.if-not-fits.false in sortable c.requires (points_in a.points) a.n c.list_bad-elements.result a.area.now c.list_bad-elements.new.area f c.list_bad-elements.ensures.0 c.list_bad-elements.ensures.1 c.rows_from.new.area c.rows_from.ensures
+
+pub returns : goal.returns
+unfolding list_fits
+returns g c = let a = c.args in let f = sym c.fits.ensures ∙ c.if-not-fits.false in listing c.requires (points_in a.points) a.n c.list_bad-elements.result a.area.now c.list_bad-elements.new.area f c.list_bad-elements.ensures.0 c.list_bad-elements.ensures.1 c.rows_from.new.area c.rows_from.ensures c.set_from-rows.result c.set_from-rows.new.area c.set_from-rows.ensures.0 c.set_from-rows.ensures.1

@@ -1,0 +1,7 @@
+-- `mesh::strata::Strata::of` meets its contract: a stratum has 38 bits. Assumes nothing.
+use Rattle.std.proofs.Common.{arith}
+use Rattle.geometry.proofs.Laws.Box.Cap.{stratum-lt}
+use Rattle.mesh.proofs.strata.Strata.of.Goals as goal
+
+pub returns-clause-below : goal.returns-clause-below
+returns-clause-below c = rw c.stratum.ensures (stratum-lt c.at.result c.args.self.bounds c.word.result (omega arith))

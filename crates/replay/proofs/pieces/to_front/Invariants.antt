@@ -1,9 +1,0 @@
--- The buffer keeps its length.
-use Rattle.std.proofs.Common.{◌-◌, ◌≡◌, length}
-use Rattle.replay.proofs.pieces.to_front.Given as goal
-
-abbrev pub invariant-loop-i : goal.invariant-loop-i
-invariant-loop-i l = length l.buffer ≡ length l.initial.buffer
-
-abbrev pub decreases-loop-i : goal.decreases-loop-i
-decreases-loop-i l = l.n - l.i

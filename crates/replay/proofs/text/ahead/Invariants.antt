@@ -1,9 +1,0 @@
--- `replay::text::ahead` ends, and reads within its slices. Assumes nothing.
-
-use Rattle.replay.proofs.text.ahead.Given as goal
-
-abbrev pub invariant-loop-left : goal.invariant-loop-left
-invariant-loop-left l = Unit {0}
-
-abbrev pub decreases-loop-left : goal.decreases-loop-left
-decreases-loop-left l = l.left

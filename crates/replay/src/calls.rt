@@ -1,0 +1,79 @@
+// Stored calls of data/passes.txt, whose head states the form: each list of calls up to the first of a pass that is not replayed. After every
+// call the answer, every place of the five buffers and the zeros of both work slices are compared.
+ghost use Rattle.std.specs.Prelude.{◌≡◌, ◌+◌, IfOk};
+
+use crate::call::{Buffers, Call, Pass, read_answer};
+use crate::tally::Tally;
+use crate::words::{ReadError, Words};
+use mesh::intake::Sizes;
+use std::alloc::Global;
+
+// Runs the call that follows. Whether it gives the stored answer and leaves what is stored; with the sizes that the stored answer says.
+fn call_agrees(
+    alloc: Global,
+    words: &mut Words,
+    pass: Pass,
+    sizes: Sizes,
+    mesh: &mut Buffers,
+) -> Result<(bool, Sizes), ReadError> {
+    let call = Call::read(alloc, pass, words)?;
+    let mut expected = mesh.clone()?;
+    let stored = read_answer(alloc, words, &mut expected)?;
+    let (given, cleared) = call.run(alloc, sizes, mesh)?;
+    let agrees = cleared && given == stored && mesh.same(&expected);
+    Ok((agrees, stored.map_or(sizes, |done| done.sizes())))
+}
+
+// Replays the n calls that follow, up to the first of a pass that is not replayed.
+fn replay_calls(
+    alloc: Global,
+    words: &mut Words,
+    n: u64,
+    start: Sizes,
+    mesh: &mut Buffers,
+) -> Result<Tally, ReadError>
+    ensures { IfOk result (λ t. t.agree + t.differ + t.left ≡ n) }
+{
+    let mut sizes = start;
+    let mut agree = 0u64;
+    for i in 0..n {
+        words.pass("call")?;
+        let Ok(pass) = Pass::try_from(words.parse::<u32>()?) else {
+            return Ok(Tally {
+                agree,
+                differ: i - agree,
+                left: n - i,
+            });
+        };
+        let (agrees, after) = call_agrees(alloc, words, pass, sizes, mesh)?;
+        agree += u64::from(agrees);
+        sizes = after;
+    }
+    Ok(Tally {
+        agree,
+        differ: n - agree,
+        left: 0,
+    })
+}
+
+// Replays the list of calls whose words these are, behind its name.
+fn replay_case(alloc: Global, words: &mut Words) -> Result<Tally, ReadError> {
+    words.pass("sizes")?;
+    let sizes = words.read()?;
+    let mut mesh = Buffers::read(alloc, words)?;
+    words.pass("calls")?;
+    let n = words.read()?;
+    replay_calls(alloc, words, n, sizes, &mut mesh)
+}
+
+// Replays every list of calls of a text. A list begins with the word `case` and its name, at the beginning of a line.
+pub(crate) fn replay(alloc: Global, text: &str) -> Result<Tally, ReadError> {
+    let mut tally = Tally::default();
+    let first = text.strip_prefix("case ");
+    for list in first.into_iter().chain(text.split("\ncase ").skip(1)) {
+        let mut words = Words::of(list);
+        words.skip()?;
+        tally.add(replay_case(alloc, &mut words)?);
+    }
+    Ok(tally)
+}

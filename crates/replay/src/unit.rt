@@ -1,0 +1,148 @@
+// One line of data/units.txt: the function that it names, on its inputs, against the Rust's answer.
+use crate::link::link_agrees;
+use crate::project::project_agrees;
+use crate::surface::{boundary_agrees, nonmanifold_agrees};
+use crate::words::{Pattern, ReadError, Words, same, same_point};
+use geometry::bounds::{Bounds, Options, Span, cap, spacing};
+use geometry::field::{Field, gradient, value};
+use geometry::point::{Point, determinant};
+use geometry::root::root;
+use geometry::score::{score, squared_edges};
+use std::alloc::Global;
+use std::fmt;
+use std::str::FromStr;
+
+// The functions that are replayed.
+#[derive(Clone, Copy, Debug, PartialEq, Eq)]
+pub(crate) enum Unit {
+    Root,
+    Norm,
+    Determinant,
+    Edges,
+    Score,
+    Spacing,
+    Rank,
+    Cap,
+    Value,
+    Gradient,
+    Boundary,
+    Nonmanifold,
+    Link,
+    Project,
+}
+
+impl fmt::Display for Unit {
+    fn fmt<W: fmt::Write>(&self, f: &mut fmt::Formatter<W>) -> fmt::Result {
+        f.write_str(self.name())
+    }
+}
+
+impl FromStr for Unit {
+    type Err = ReadError;
+
+    fn from_str(s: &str) -> Result<Unit, ReadError> {
+        Unit::ALL
+            .into_iter()
+            .find(|unit| unit.name() == s)
+            .ok_or(ReadError::Malformed)
+    }
+}
+
+impl Unit {
+    pub const ALL: [Unit; 14] = [
+        Unit::Root,
+        Unit::Norm,
+        Unit::Determinant,
+        Unit::Edges,
+        Unit::Score,
+        Unit::Spacing,
+        Unit::Rank,
+        Unit::Cap,
+        Unit::Value,
+        Unit::Gradient,
+        Unit::Boundary,
+        Unit::Nonmanifold,
+        Unit::Link,
+        Unit::Project,
+    ];
+
+    fn name(self) -> &'static str {
+        match self {
+            Unit::Root => "root",
+            Unit::Norm => "norm",
+            Unit::Determinant => "determinant",
+            Unit::Edges => "edges",
+            Unit::Score => "score",
+            Unit::Spacing => "spacing",
+            Unit::Rank => "rank",
+            Unit::Cap => "cap",
+            Unit::Value => "value",
+            Unit::Gradient => "gradient",
+            Unit::Boundary => "boundary",
+            Unit::Nonmanifold => "nonmanifold",
+            Unit::Link => "link",
+            Unit::Project => "project",
+        }
+    }
+
+    // Whether the function gives the answer of the line's words behind its name; nothing where the line is not replayed.
+    pub fn agrees(self, alloc: Global, words: &mut Words) -> Result<Option<bool>, ReadError> {
+        Ok(Some(match self {
+            Unit::Root => same(root(words.read()?), words.answer()?),
+            Unit::Norm => same(words.read::<Point>()?.norm(), words.answer()?),
+            Unit::Determinant => element_agrees(words, determinant)?,
+            Unit::Edges => element_agrees(words, squared_edges)?,
+            Unit::Score => element_agrees(words, score)?,
+            Unit::Spacing => spacing_agrees(words)?,
+            Unit::Rank => rank_agrees(words)?,
+            Unit::Cap => {
+                let bounds: Bounds = words.read()?;
+                Pattern(cap(words.read()?, bounds)) == words.answer()?
+            }
+            Unit::Value => {
+                let field: Field = words.read()?;
+                same(value(field, words.read()?), words.answer()?)
+            }
+            Unit::Gradient => {
+                let field: Field = words.read()?;
+                same_point(gradient(field, words.read()?), words.answer()?)
+            }
+            Unit::Boundary => boundary_agrees(alloc, words)?,
+            Unit::Nonmanifold => nonmanifold_agrees(alloc, words)?,
+            Unit::Link => return link_agrees(alloc, words),
+            Unit::Project => project_agrees(alloc, words)?,
+        }))
+    }
+}
+
+// A function of an element's four points.
+fn element_agrees<F: Fn(Point, Point, Point, Point) -> f64>(
+    words: &mut Words,
+    f: F,
+) -> Result<bool, ReadError>
+    requires { F.IsAlwaysCallable f }
+{
+    let x = f(words.read()?, words.read()?, words.read()?, words.read()?);
+    Ok(same(x, words.answer()?))
+}
+
+fn spacing_agrees(words: &mut Words) -> Result<bool, ReadError> {
+    let h = spacing(Options {
+        bounds: words.read()?,
+        cells: words.read()?,
+        periodic: 0,
+        passes: 0,
+    });
+    Ok(same(h, words.answer()?))
+}
+
+fn rank_agrees(words: &mut Words) -> Result<bool, ReadError> {
+    let value = words.read()?;
+    let span = Span {
+        lo: words.read()?,
+        hi: words.read()?,
+    };
+    let periodic = words.parse::<u32>()? == 1;
+    let rank = span.rank_value(span.canonical_value(value, periodic));
+    Ok(rank == words.answer()?)
+}

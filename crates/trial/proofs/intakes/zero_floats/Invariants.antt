@@ -1,9 +1,0 @@
--- `trial::intakes::zero_floats` ends. Assumes nothing.
-use Rattle.std.proofs.Common.{◌-◌}
-use Rattle.trial.proofs.intakes.zero_floats.Given as goal
-
-abbrev pub invariant-loop-i : goal.invariant-loop-i
-invariant-loop-i l = Unit {0}
-
-abbrev pub decreases-loop-i : goal.decreases-loop-i
-decreases-loop-i l = l.n - l.i

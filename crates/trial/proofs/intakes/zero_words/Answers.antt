@@ -1,8 +1,0 @@
--- `trial::intakes::zero_words` ends. Assumes nothing.
-use Rattle.trial.proofs.intakes.zero_words.Goals as goal
-
-pub loop-i-init : goal.loop-i-init
-loop-i-init c = tt
-
-pub loop-i-preserved : goal.loop-i-preserved
-loop-i-preserved c = tt

@@ -1,9 +1,0 @@
--- `trial::meshes::put_points` ends, and keeps its slice's length. Assumes nothing.
-use Rattle.std.proofs.Common.{refl, ◌∙◌, arith}
-use Rattle.trial.proofs.meshes.put_points.Goals as goal
-
-pub loop-i-init : goal.loop-i-init
-loop-i-init c = (omega arith, refl)
-
-pub loop-i-preserved : goal.loop-i-preserved
-loop-i-preserved c = (omega arith, c.put_float-in-loop-i-2.auto.s ∙ c.put_float-in-loop-i.auto.s ∙ c.put_float.auto.s ∙ c.loop-i.invariant.1)
