@@ -182,7 +182,7 @@ use Rattle.std.proofs.Math.Option.{none, some}
 use Rattle.std.specs.Float.{nan, inf, fin}
 use mathlib.Core.Path.{refl}
 use Rattle.geometry.specs.declared.field.Field.TheVariants.{Level, Plane, Ball}
-use Rattle.repair.specs.declared.answer.Answer.TheVariants.{Done, Refused}
+use Rattle.repair.specs.Step.{Done, Refused}
 use Rattle.repair.specs.Step.{State, Call, Pass, step}
 
 """
@@ -369,7 +369,7 @@ sqrt (fin false (suc m) e) = quick (suc m * up e) (down e) ((size (down e) + 122
 """
 
 
-TYPE = re.compile(r"^(?:pub(?:\(crate\))? )?(?:struct|enum) .*?^}\n", re.M | re.S)
+TYPE = re.compile(r"^(?:pub(?:\(crate\))? )?(?:struct|enum) (?:[^\n{]*;\n|.*?^}\n)", re.M | re.S)
 
 
 def types_only(text):
@@ -377,7 +377,9 @@ def types_only(text):
     types = TYPE.findall(text)
     uses = []
     for path, name, names in re.findall(r"^use ((?:\w+::)+)(?:(\w+)|\{([^}]*)\});", text, re.M):
-        uses += [f"use {path}{n};\n" for n in re.findall(r"\w+", name or names) if re.match(r"[A-Z][a-z]", n)]
+        uses += [f"use {path}{n};\n" for n in re.findall(r"\w+", name or names) if n[0].isupper() and re.search(rf"\b{n}\b", "".join(types))]
+    if any(re.search(r"^    ghost ", t, re.M) for t in types):
+        uses = re.findall(r"^ghost use .*;\n", text, re.M) + uses
     return "".join(uses + types) if types else ""
 
 
