@@ -378,7 +378,7 @@ def types_only(text):
     uses = []
     for path, name, names in re.findall(r"^use ((?:\w+::)+)(?:(\w+)|\{([^}]*)\});", text, re.M):
         uses += [f"use {path}{n};\n" for n in re.findall(r"\w+", name or names) if n[0].isupper() and re.search(rf"\b{n}\b", "".join(types))]
-    if any(re.search(r"^    ghost ", t, re.M) for t in types):
+    if any(re.search(r"^    (?:pub )?ghost ", t, re.M) for t in types):
         uses = re.findall(r"^ghost use .*;\n", text, re.M) + uses
     return "".join(uses + types) if types else ""
 

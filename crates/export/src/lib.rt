@@ -1,5 +1,7 @@
 // Functions for programs in other languages to call, for comparison and measurement. Numbers pass as
 // themselves, an array as a pointer to its first number. A box is lo and hi per direction: x, y, z.
+// Kept by hand: the C interface. `h_field_value` and `h_field_gradient` take a kind as a number, `h_rank` a flag, `h_field_gradient` and
+// `along` a direction from 0; `h_nonmanifold` gives 1 or 0.
 #![tactic(auto)]
 
 pub mod passes;
@@ -143,9 +145,6 @@ pub extern "C" fn h_nonmanifold(surface: &[u32], _vertices: u32, work: &mut [u32
         × (work.new ≡ (nonmanifold_in (length surface.now / 3) (copied surface.now 0 work.old 0 (3 * (length surface.now / 3)))).area) }
 {
     let n = surface.len() / 3;
-    mesh::words::copy_into(surface, 0, work, 0, 3 * n);
-    if mesh::manifold::nonmanifold_in(work, n) {
-        return 1;
-    }
-    0
+    mesh::words::copy_part(surface, 0, work, 0, 3 * n);
+    u32::from(mesh::manifold::nonmanifold_in(work, n))
 }

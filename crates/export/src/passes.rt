@@ -1,4 +1,5 @@
 // Parts of the passes for other languages: projection, link test, intake. Settings and numbers are those of the passes.
+// Kept by hand: the C interface. `h_project`, `h_link` and `h_intake` give a number and take each buffer by itself.
 ghost use Rattle.std.specs.Prelude.{◌≡◌, List, ℕ, ◌*◌, ◌/◌, Float, length, take};
 ghost use Rattle.mesh.specs.Words.{points_of, copied, zero_words, zero_floats};
 ghost use Rattle.mesh.specs.Intake.{intake, given_of};
@@ -10,8 +11,9 @@ ghost use Rattle.export.specs.Answers.{as_number, point_over};
 use crate::point_in;
 use geometry::point::Point;
 use halmafir::arrays::{bounds_of, fields_of, options_of, settings_of};
-use mesh::link::link_ok_in;
-use mesh::words::copy_into;
+use mesh::strata::Strata;
+use mesh::vertex::Points;
+use mesh::words::copy_part;
 use repair::project::project_candidate;
 
 // Puts the point found and gives 1, or gives 0.
@@ -78,20 +80,13 @@ pub extern "C" fn h_link(
         (length elements.now / 4) (copied elements.now 0 work.old 0 (4 * (length elements.now / 4)))).area) }
 {
     let n = elements.len() / 4;
-    copy_into(elements, 0, work, 0, 4 * n);
-    if link_ok_in(
-        work,
-        n,
-        a,
-        b,
+    copy_part(elements, 0, work, 0, 4 * n);
+    let strata = Strata::new(
         masks,
-        parameters,
-        masks.len(),
+        Points::new(parameters, masks.len()),
         bounds_of(sides),
-    ) {
-        return 1;
-    }
-    0
+    );
+    u32::from(strata.link_ok_in(work, n, a, b))
 }
 
 // Intake's number for a mesh and the other inputs of a pass, for measurements; of masks and surface it takes the lengths. Both work slices are all

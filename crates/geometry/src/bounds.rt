@@ -5,6 +5,7 @@ ghost use Rattle.geometry.specs.Rank.{nearest_away, rank_value, rank};
 
 use crate::float::smaller;
 use crate::point::Point;
+use std::num::saturating_f64_to_u64;
 
 #[derive(Clone, Copy)]
 pub struct Bounds {
@@ -22,9 +23,9 @@ pub struct Span {
 // The three directions.
 #[derive(Clone, Copy, PartialEq, Eq, Debug)]
 pub enum Axis {
-    X,
-    Y,
-    Z,
+    X = 0,
+    Y = 1,
+    Z = 2,
 }
 
 #[derive(Clone, Copy)]
@@ -35,6 +36,7 @@ pub struct Cells {
 }
 
 // The box with what stands beside it. Bits of periodic: x is 1, y 2, z 4.
+// Kept by hand: `periodic` is a set of bits as the C interface gives it, where an unknown bit can be refused.
 #[derive(Clone, Copy)]
 pub struct Options {
     pub bounds: Bounds,
@@ -56,14 +58,11 @@ impl From<Axis> for u32 {
     ghost from_gives = { λ axis n. n ≡ place_of axis };
 
     fn from(axis: Axis) -> u32 {
-        match axis {
-            Axis::X => 0,
-            Axis::Y => 1,
-            Axis::Z => 2,
-        }
+        axis as u32
     }
 }
 
+// Kept by hand: no plainer: one function of an `Axis` has three arms that name the same two fields each, and each caller names the axis still.
 impl Bounds {
     fn x(self) -> Span
         ensures { result ≡ record { lo = self.lo.x; hi = self.hi.x } }
@@ -95,7 +94,7 @@ impl Bounds {
 
 impl Span {
     // (hi - lo) / cells.
-    fn cell_size(self, cells: u32) -> f64
+    pub fn cell_size(self, cells: u32) -> f64
         ensures { result ≡ cell_size self.lo self.hi cells }
     {
         (self.hi - self.lo) / f64::from(cells)
@@ -120,7 +119,8 @@ impl Span {
     }
 
     // 1 for exactly on lo, else 2 for exactly on hi, else 0: the two bits of a direction in a cap.
-    fn side(self, value: f64) -> u64
+    // Kept by hand: no enum is plainer, since `cap` adds the two bits up as a number.
+    pub fn side(self, value: f64) -> u64
         ensures { result ≡ side value self.lo self.hi }
     {
         if value == self.lo {
@@ -138,12 +138,14 @@ pub fn spacing(o: Options) -> f64
     ensures { result ≡ spacing o }
 {
     let b = o.bounds;
-    let x = smaller(f64::INFINITY, b.x().cell_size(o.cells.x));
-    let y = smaller(x, b.y().cell_size(o.cells.y));
-    smaller(y, b.z().cell_size(o.cells.z))
+    let x = b.x().cell_size(o.cells.x);
+    let y = b.y().cell_size(o.cells.y);
+    let z = b.z().cell_size(o.cells.z);
+    [x, y, z].into_iter().fold(f64::INFINITY, smaller)
 }
 
 // Whether the bit of a direction is set: any number may be asked for, and from 32 on none is set.
+// Kept by hand: an `Axis` is no plainer here, and would ask more of callers; `Options::is_periodic` takes one.
 pub fn periodic_in(periodic: u32, axis: u32) -> bool
     ensures { result ≡ periodic_in periodic axis }
 {
@@ -159,6 +161,7 @@ impl Options {
 }
 
 // p with lo for hi in each periodic direction.
+// Kept by hand, with `rank`, `cap` and `stratum`: no plainer as methods: each is as much of the point as of the box.
 #[tactic(auto, unfolding(crate::specs::Bounds::canonical))]
 pub fn canonical(p: Point, o: Options) -> Point
     ensures { result ≡ canonical p o }
@@ -172,26 +175,11 @@ pub fn canonical(p: Point, o: Options) -> Point
 }
 
 // q to the nearest whole number, a half away from zero: 0 for a NaN or below 0, and at most
-// 2 ^ 64 - 1. q - n is exact, where q + 0.5 would round.
+// 2 ^ 64 - 1.
 pub fn nearest_away(q: f64) -> u64
     ensures { result ≡ nearest_away q }
 {
-    if q > 0.0 {
-        if q < 4503599627370496.0 {
-            let n = std::num::truncating_f64_to_u64(q);
-            let rest = q - (n as f64);
-            if rest < 0.5 {
-                return n;
-            }
-            return n + 1;
-        }
-        // from 2 ^ 52 on q is whole
-        if q < 18446744073709551616.0 {
-            return std::num::truncating_f64_to_u64(q);
-        }
-        return 0xffff_ffff_ffff_ffff;
-    }
-    0
+    saturating_f64_to_u64(q.round())
 }
 
 // The rank of p: in a periodic direction hi counts as lo.
@@ -223,5 +211,5 @@ pub fn cap(p: Point, b: Bounds) -> u64
 pub fn stratum(mask: u32, p: Point, b: Bounds) -> u64
     ensures { result ≡ stratum mask p b }
 {
-    (mask as u64) + cap(p, b)
+    u64::from(mask) + cap(p, b)
 }

@@ -3,7 +3,6 @@ ghost use Rattle.std.specs.Prelude.{◌≡◌};
 ghost use Rattle.geometry.specs.Field.{kind, number_of, NumberOf, value, gradient, magnitude};
 
 use crate::point::Point;
-use crate::root::root;
 
 // Level(c), Plane(n, d), Ball(c, r).
 #[derive(Clone, Copy)]
@@ -16,9 +15,9 @@ pub enum Field {
 // The kinds of fields.
 #[derive(Clone, Copy, PartialEq, Eq, Debug)]
 pub enum Kind {
-    Level,
-    Plane,
-    Ball,
+    Level = 0,
+    Plane = 1,
+    Ball = 2,
 }
 
 // A number that no kind has.
@@ -29,14 +28,11 @@ impl From<Kind> for u32 {
     ghost from_gives = { λ kind n. n ≡ number_of kind };
 
     fn from(kind: Kind) -> u32 {
-        match kind {
-            Kind::Level => 0,
-            Kind::Plane => 1,
-            Kind::Ball => 2,
-        }
+        kind as u32
     }
 }
 
+// Kept by hand: std makes no enum of a number.
 impl TryFrom<u32> for Kind {
     type Error = UnknownKind;
 
@@ -65,6 +61,7 @@ impl Field {
 }
 
 // The field's value at p.
+// Kept by hand, with `gradient`: no plainer as methods: each is as much of the point as of the field.
 pub fn value(f: Field, p: Point) -> f64
     ensures { result ≡ value f p }
 {
@@ -101,8 +98,9 @@ pub fn gradient(f: Field, p: Point) -> Point
 }
 
 // The root of g's dot product with itself.
+#[tactic(auto, unfolding(crate::specs::Point::norm))]
 pub fn magnitude(g: Point) -> f64
     ensures { result ≡ magnitude g }
 {
-    root(g.dot(g))
+    g.norm()
 }

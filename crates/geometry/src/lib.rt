@@ -1,5 +1,5 @@
 // Floats: points, the square root, the score of an element, the box with its ranks and caps, fields,
-// and the words of a float. Every function is total, and its contract is an equation with a
+// and the words of a float. Every public function is total, and its contract is an equation with a
 // definition of specs/.
 #![tactic(auto)]
 

@@ -56,6 +56,8 @@ impl Point {
 }
 
 // Six times the signed volume of the element a b c d.
+// Kept by hand, here, in src/score.rt and in src/measure.rt of mesh: the formulas name the four points, and a struct of them is no
+// plainer: it would be made at each call and taken apart again.
 #[tactic(auto, unfolding(crate::specs::Point::determinant))]
 pub fn determinant(a: Point, b: Point, c: Point, d: Point) -> f64
     ensures { result ≡ determinant a b c d }

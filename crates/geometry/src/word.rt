@@ -4,42 +4,39 @@ ghost use Rattle.std.specs.Float.{binary64};
 ghost use Rattle.geometry.specs.Word.{from_words, low_word, high_word};
 ghost use Rattle.geometry.specs.inside.Word.{order_bits};
 
+use std::num::{f64_from_bits_with_nan, f64_to_bits_with_nan};
+
 // The bits of an x above 0, 0 for what is not above 0, and the largest number for a NaN: between
 // values that are not negative the numbers compare as the values do.
 pub fn order_bits(x: f64) -> u64
     ensures { result ≡ order_bits x }
 {
     if x > 0.0 {
-        return f64::to_bits(x);
+        x.to_bits()
+    } else if x.is_nan() {
+        u64::MAX
+    } else {
+        0
     }
-    if x != x {
-        return 0xffff_ffff_ffff_ffff;
-    }
-    0
 }
 
 // The f64 whose pattern has these words. Every NaN pattern is the one NaN.
+// Kept by hand: no `From` takes two words.
 pub fn from_words(low: u32, high: u32) -> f64
     ensures { result ≡ from_words low high }
 {
-    let bits = (low as u64) + 0x1_0000_0000 * (high as u64);
-    if bits % 0x8000_0000_0000_0000 > 0x7ff0_0000_0000_0000 {
-        return 0.0 / 0.0;
-    }
-    f64::from_bits(bits)
+    f64_from_bits_with_nan(u64::from(low) + 0x1_0000_0000 * u64::from(high))
 }
 
 // The pattern of x, for a NaN 0x7ff8_0000_0000_0000.
 pub fn pattern(x: f64) -> u64
     ensures { result ≡ to_bits binary64 x }
 {
-    if x != x {
-        return 0x7ff8_0000_0000_0000;
-    }
-    f64::to_bits(x)
+    f64_to_bits_with_nan(x)
 }
 
 // The lower 32 bits of x's pattern.
+// Kept by hand, with `high_word`: no plainer: std has no halves of a u64, and each half is one expression.
 pub fn low_word(x: f64) -> u32
     ensures { result ≡ low_word x }
 {

@@ -1,4 +1,6 @@
 // Arrays of numbers as a box, fields, and what stands beside a mesh.
+// Kept by hand: the C interface passes plain arrays. An impl of `From` for a pair of arrays belongs to geometry or mesh, whose types these are, by
+// the orphan rule, and they don't know the arrays of C.
 ghost use Rattle.std.specs.Prelude.{◌≡◌, ◌<◌};
 ghost use Rattle.halmafir.specs.Arrays.{bounds_of, field_of, field_at, fields_of, options_of, sizes_of, settings_of};
 
@@ -6,6 +8,7 @@ use geometry::bounds::{Bounds, Cells, Options};
 use geometry::field::{Field, Kind};
 use geometry::point::Point;
 use mesh::intake::{Settings, Sizes};
+use std::array::from_fn;
 
 // lo and hi per direction: x, y, z.
 pub fn bounds_of(b: &[f64; 6]) -> Bounds
@@ -61,17 +64,7 @@ fn field_at(settings: &[u32; 14], numbers: &[f64; 38], j: usize) -> Field
 pub fn fields_of(settings: &[u32; 14], numbers: &[f64; 38]) -> [Field; 8]
     ensures { result ≡ fields_of settings.now numbers.now }
 {
-    // Kept by hand: the eight places in a list are the definition's own form; with `std::array::from_fn` eight equal fields were not proved.
-    [
-        field_at(settings, numbers, 0),
-        field_at(settings, numbers, 1),
-        field_at(settings, numbers, 2),
-        field_at(settings, numbers, 3),
-        field_at(settings, numbers, 4),
-        field_at(settings, numbers, 5),
-        field_at(settings, numbers, 6),
-        field_at(settings, numbers, 7),
-    ]
+    from_fn(|j| field_at(settings, numbers, j))
 }
 
 // The box, cells, periodic bits and passes.

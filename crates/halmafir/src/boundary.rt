@@ -1,4 +1,5 @@
 // The boundary of elements.
+// Kept by hand: the C interface. `halmafir_boundary` takes the number of elements beside their buffer, and gives a number.
 ghost use Rattle.std.specs.Prelude.{◌≡◌};
 ghost use Rattle.mesh.specs.Surface.{boundary_call};
 ghost use Rattle.halmafir.specs.Called.{Bounded, bounded};

@@ -2,11 +2,13 @@
 // passes, how many of the eight fields there are, and their kinds; `numbers` are the box, lo and hi per direction, and four for each field.
 // The number returned is 0, with the count and the new sizes in `result`, or one of document 01's table, with zeros there.
 // Both work slices may hold anything before, and are all zeros afterwards.
+// Kept by hand: the C interface. `halmafir_improve`, `halmafir_smooth` and `halmafir_flip` take each buffer by itself, a list of regions with
+// a number that says whether there is one, and give a number.
 ghost use Rattle.std.specs.Prelude.{◌≡◌, List, not, ℕ, eqb};
 ghost use Rattle.std.proofs.Math.Option.{none};
 ghost use Rattle.mesh.specs.Words.{zero_words};
 ghost use Rattle.repair.specs.Answer.{answer_of};
-ghost use Rattle.repair.specs.Step.{Pass, call_of, held, regions_of, number_of, values_of, over};
+ghost use Rattle.repair.specs.Step.{Pass, call_of, held, regions_of, regions_in, number_of, values_of, over};
 ghost use Rattle.halmafir.specs.Arrays.{fields_of, sizes_of, settings_of};
 ghost use Rattle.halmafir.specs.Called.{Returned, called};
 
@@ -31,6 +33,13 @@ fn put_answer(to: &mut [usize; 4], given: Result<Made, Refusal>) -> u32
             u32::from(refusal)
         }
     }
+}
+
+// The list of regions, if there is one: `listed` is 0 where there is none.
+fn listed_regions<'a>(listed: u32, regions: &'a [u32]) -> Option<&'a [u32]>
+    ensures { regions_in result ≡ regions_of (not (eqb listed 0)) regions.now }
+{
+    if listed != 0 { Some(regions) } else { None }
 }
 
 // `improve`: collapses short edges of badly shaped elements. The count is that of the vertices replaced.
@@ -87,8 +96,7 @@ pub fn halmafir_smooth(
     let given = smooth(
         s,
         f,
-        listed != 0,
-        regions,
+        listed_regions(listed, regions),
         parameters,
         points,
         masks,

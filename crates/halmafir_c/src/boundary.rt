@@ -1,4 +1,5 @@
 // The boundary of elements, for C.
+// Kept by hand: the C interface.
 ghost use Rattle.std.specs.Prelude.{◌≡◌};
 ghost use Rattle.mesh.specs.Surface.{boundary_call};
 ghost use Rattle.halmafir.specs.Called.{Bounded, bounded};

@@ -1,4 +1,5 @@
 // The passes on a mesh in its buffers, for C: src/passes.rt of crate halmafir says what the arrays hold.
+// Kept by hand: the C interface; all three functions.
 ghost use Rattle.std.specs.Prelude.{◌≡◌, not, eqb};
 ghost use Rattle.std.proofs.Math.Option.{none};
 ghost use Rattle.repair.specs.Step.{Pass, call_of, held, regions_of};

@@ -3,11 +3,13 @@ pub mod Bools
 pub mod Numbers
 pub mod NumbersFrom
 pub mod Edge
+pub mod EachRun
 pub mod Every
 pub mod Parts
 pub mod Sort
 pub mod Unique
 pub mod Rows
+pub mod SortedNumbers
 pub mod SortedRows
 pub mod Merging
 pub mod Halves

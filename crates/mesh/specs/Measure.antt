@@ -1,6 +1,6 @@
 -- What a pass, intake or the table asks of the points of an element or of an edge (document 01, "Coordinate, determinant, score"). Every
 -- other definition asks it here. A vertex past the last has the point 0 0 0. Definitions only.
-use Rattle.std.specs.Prelude.{ℕ, Bool, cond, List, map, length, Float}
+use Rattle.std.specs.Prelude.{ℕ, Bool, cond, List, map, length, Float, Option, Some, None}
 use Rattle.std.specs.Float.Ieee.{lt, le}
 use Rattle.geometry.specs.declared.point.Point.{Point}
 use Rattle.geometry.specs.Float.{◌-₆₄◌, ◌*₆₄◌, zero64, absolute, total}
@@ -9,7 +9,6 @@ use Rattle.geometry.specs.Point.{difference, norm, determinant}
 use Rattle.geometry.specs.Score.{score, bad, lowest}
 use Rattle.mesh.specs.declared.element.Pair.{Pair}
 use Rattle.mesh.specs.declared.element.Tet.{Tet}
-use Rattle.mesh.specs.declared.measure.Measured.{Measured}
 use Rattle.mesh.specs.Words.{point_at}
 use Rattle.mesh.specs.Complex.{keep}
 
@@ -61,13 +60,10 @@ lowest_of μ ts = lowest (map μ.score ts)
 
 -- ---- an element measured at once
 
--- whether the determinant of four points is above 0, and then their score, else 0
-abbrev pub measured_at : Point → Point → Point → Point → Measured
-measured_at a b c d = record {
-  above = lt zero64 (determinant a b c d);
-  score = cond (lt zero64 (determinant a b c d)) (score a b c d) zero64;
-}
+-- the score of four points where their determinant is above 0
+abbrev pub measured_at : Point → Point → Point → Point → Option Float
+measured_at a b c d = cond (lt zero64 (determinant a b c d)) (Some (score a b c d)) None
 
 -- the same of the points of an element
-abbrev pub measured_of : List Point → Tet → Measured
+abbrev pub measured_of : List Point → Tet → Option Float
 measured_of ps t = measured_at (point_at ps t.a) (point_at ps t.b) (point_at ps t.c) (point_at ps t.d)

@@ -5,11 +5,13 @@ pub mod Euler
 pub mod Faces
 pub mod FeatureByMasks
 pub mod LinkRows
+pub mod LinkAreas
 pub mod LinkTable
 pub mod List
 pub mod Marks
 pub mod Moves
 pub mod Rows
+pub mod Runs
 pub mod RowWidths
 pub mod Shared
 pub mod Short

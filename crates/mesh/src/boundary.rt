@@ -3,26 +3,23 @@
 // An area for n elements has 36 n words: the elements, 4 n words; the face rows, 4 n rows of 4 words; as many words of scratch. A face
 // row is a face's key and its number, which is 4 e + k for the face k of the element e. The single faces are gathered as rows of 3
 // words over the face rows that are read already.
+//
+// Kept by hand, in all functions here that take words: rows at offsets of one slice, since memory is lent and fixed (no heap), and the
+// number of elements or rows beside it. No plainer with a struct of both: `gather` alone would take it.
 ghost use Rattle.std.specs.Prelude.{◌≡◌, ◌+◌, ◌*◌, ◌≤◌, length, drop};
 ghost use Rattle.mesh.specs.inside.Rows.{rows};
 ghost use Rattle.mesh.specs.Surface.{outcome_of, call_fits, Call, boundary_call};
-ghost use Rattle.mesh.specs.inside.Surface.{area_fits, Filled, boundary_in, kind_at, run_number, FaceArea, Gathered};
+ghost use Rattle.mesh.specs.inside.Surface.{Filled, boundary_in, kind_at, run_number, FaceArea, Gathered};
 
 use crate::element::face_parity;
 use crate::faces::{face_at, sorted_faces};
 use crate::refusal::Refusal;
 use crate::rows::{eq_rows, put_row, sort_rows};
-use crate::words::{clear, copy_over};
-
-// Whether n is at most 65,536 and an area for n elements fits into m words.
-#[tactic(auto, unfolding(crate::specs::inside::Surface::area_fits))]
-fn area_fits(n: usize, m: usize) -> bool
-    ensures { result ≡ area_fits n m }
-{
-    n <= 65536 && 36 * n <= m
-}
+use crate::vertex::fits;
+use crate::words::{copy_over, zero_all};
 
 // Whether n is at most 16,384 and n elements, 4 n triples and an area for n elements fit into as many words.
+// Kept by hand: no plainer with `fits`, whose limit is another.
 #[tactic(auto, unfolding(crate::specs::Surface::call_fits))]
 fn call_fits(n: usize, elements: usize, surface: usize, work: usize) -> bool
     ensures { result ≡ call_fits n elements surface work }
@@ -30,12 +27,12 @@ fn call_fits(n: usize, elements: usize, surface: usize, work: usize) -> bool
     n <= 16384 && 4 * n <= elements && 12 * n <= surface && 36 * n <= work
 }
 
-// A run of equal keys: a single face, two of opposite parity, two of equal parity, three or more.
+// A run of equal keys: a single face, two of opposite parity, two of the same parity, three or more.
 #[derive(Clone, Copy, PartialEq, Eq, Debug)]
 enum Run {
     Single,
     Opposed,
-    Level,
+    SameParity,
     Crowded,
 }
 
@@ -53,7 +50,7 @@ fn run_kind(area: &[u32], p: usize, left: usize) -> Run
     let f = face_at(area, area[p + 3]);
     let g = face_at(area, area[p + 7]);
     if face_parity(f) == face_parity(g) {
-        Run::Level
+        Run::SameParity
     } else {
         Run::Opposed
     }
@@ -64,7 +61,7 @@ fn gather(area: &mut [u32], n: usize) -> Result<usize, Refusal>
     requires { FaceArea n area.old }
     ensures { Gathered n area.old area.new (outcome_of result) }
 {
-    // Kept by hand: a step takes a run of one row or two, which no iterator of the library does.
+    // Kept by hand: a turn writes over rows that are read already, so no iterator can hold them, and a step takes a run of one row or two.
     let mut p = 4 * n;
     let mut left = p;
     let mut t = p;
@@ -73,7 +70,7 @@ fn gather(area: &mut [u32], n: usize) -> Result<usize, Refusal>
         match run_kind(area, p, left) {
             Run::Single => {
                 let f = face_at(area, area[p + 3]);
-                put_row(area, t, &[f.a, f.b, f.c]);
+                put_row(area, t, &f.corners());
                 t += 3;
                 count += 1;
                 p += 4;
@@ -83,7 +80,7 @@ fn gather(area: &mut [u32], n: usize) -> Result<usize, Refusal>
                 p += 8;
                 left -= 2;
             }
-            Run::Level => return Err(Refusal::Parity),
+            Run::SameParity => return Err(Refusal::Parity),
             Run::Crowded => return Err(Refusal::Crowded),
         }
     }
@@ -95,8 +92,8 @@ fn gather(area: &mut [u32], n: usize) -> Result<usize, Refusal>
 pub fn boundary_in(area: &mut [u32], n: usize) -> Result<usize, Refusal>
     ensures { ◌≡◌ {A = Filled} (record { answer = outcome_of result; area = area.new }) (boundary_in n area.old) }
 {
-    if !area_fits(n, area.len()) {
-        clear(area);
+    if !fits(n, 36, area.len()) {
+        zero_all(area);
         return Err(Refusal::Room);
     }
     let m = 4 * n;
@@ -104,13 +101,13 @@ pub fn boundary_in(area: &mut [u32], n: usize) -> Result<usize, Refusal>
     match gather(area, n) {
         Ok(c) => {
             sort_rows(&mut area[m..], c, 3);
-            let e = m + 3 * c;
-            clear(&mut area[e..]);
+            let end = m + 3 * c;
+            zero_all(&mut area[end..]);
             Ok(c)
         }
-        Err(e) => {
-            clear(area);
-            Err(e)
+        Err(refusal) => {
+            zero_all(area);
+            Err(refusal)
         }
     }
 }
@@ -127,13 +124,13 @@ pub fn boundary(
         (boundary_call n elements.now surface.old work.old) }
 {
     if !call_fits(n, elements.len(), surface.len(), work.len()) {
-        clear(work);
+        zero_all(work);
         return Err(Refusal::Room);
     }
     let m = 4 * n;
     copy_over(work, elements, m);
     let c = boundary_in(work, n)?;
     copy_over(surface, &work[m..], 3 * c);
-    clear(work);
+    zero_all(work);
     Ok(c)
 }

@@ -3,20 +3,22 @@
 // An area for n elements has 28 n words: the elements, 4 n words; the rows of one size, at most 12 n words; as many words of scratch.
 // The rows are first the vertices, 4 n rows of 1 word, then the edges, 6 n rows of 2 words, then the triangles, 4 n rows of 3 words,
 // each with its vertices in rising order.
-ghost use Rattle.std.specs.Prelude.{◌≡◌, ◌+◌, ◌*◌, ◌<◌, ◌≤◌, length, drop};
-ghost use Rattle.mesh.specs.inside.Rows.{rows};
-ghost use Rattle.mesh.specs.Element.{tets};
+//
+// Kept by hand, in all functions here that take an area: the number of its elements or rows beside it, since memory is lent and fixed
+// (no heap) and the words behind are rows and scratch.
+ghost use Rattle.std.specs.Prelude.{◌≡◌, ℕ, ◌+◌, ◌*◌, ◌<◌, ◌≤◌, map, length, take};
+ghost use Rattle.mesh.specs.Words.{numbers};
 ghost use Rattle.mesh.specs.inside.Manifold.{filled, KeptBelow};
-ghost use Rattle.mesh.specs.inside.Euler.{ends_at, different, counts_of, count_fits, Counted, counted_in, edge_row_at, triangle_row_at};
-ghost use Rattle.mesh.specs.inside.RowWidths.{edge_row-wide, triangle_row-wide};
+ghost use Rattle.mesh.specs.inside.Euler.{ends_at, different, Counted, counted_in, vertex_row_at, edge_row_at, triangle_row_at};
+ghost use Rattle.mesh.specs.inside.RowWidths.{vertex_row-wide, edge_row-wide, triangle_row-wide};
 
-use crate::element::{Pair, Tet, face_key, tet_face};
+use crate::element::{Pair, Tet, edge, face_key, tet_face};
 use crate::rows::{Rows, fill_rows, sort_from, unique_rows};
-use crate::vertex::tet_at;
-use crate::words::{clear_from, copy_words};
+use crate::vertex::{fits, tet_at};
+use crate::words::{at, clear_from};
 
 // How many simplices of each size.
-#[derive(Clone, Copy, PartialEq, Eq, Debug)]
+#[derive(Clone, Copy, PartialEq, Eq, Debug, Default)]
 pub struct Counts {
     pub vertices: usize,
     pub edges: usize,
@@ -24,15 +26,8 @@ pub struct Counts {
     pub elements: usize,
 }
 
-// Whether n is at most 65,536 and an area for n elements fits into m words.
-#[tactic(auto, unfolding(crate::specs::inside::Euler::count_fits))]
-fn count_fits(n: usize, m: usize) -> bool
-    ensures { result ≡ count_fits n m }
-{
-    n <= 65536 && 28 * n <= m
-}
-
 // The ends of the edge k of an element, from 0: a b, a c, a d, b c, b d, c d. From 5 on the last.
+// Kept by hand: no plainer: an array of six edges would be read by the same number, as `EdgeRows` has it.
 pub(crate) fn tet_ends(t: Tet, k: usize) -> Pair
     ensures { result ≡ ends_at t k }
 {
@@ -47,42 +42,49 @@ pub(crate) fn tet_ends(t: Tet, k: usize) -> Pair
     }
 }
 
-// The edges of elements as rows: 6 e + k for the edge k of the element e.
-struct EdgeRows;
+// The vertices of elements as rows: 4 e + k for the vertex k of the element e.
+struct VertexRows;
 
-impl Rows<2> for EdgeRows {
-    ghost words = { edge_row_at };
+impl Rows<1> for VertexRows {
+    ghost words = { λ r. vertex_row_at };
 
-    #[tactic(auto, unfolding(crate::specs::inside::Euler::edge_row_at))]
-    fn row(elements: &[u32], j: usize) -> [u32; 2] {
-        let e = tet_ends(tet_at(elements, j / 6), j % 6);
-        [e.a.min(e.b), e.a.max(e.b)]
+    #[tactic(auto, unfolding(crate::specs::inside::Euler::vertex_row_at))]
+    fn row(&self, elements: &[u32], j: usize) -> [u32; 1] {
+        [at(elements, j)]
     }
 
-    ghost wide = { edge_row-wide };
+    ghost wide = { λ r. vertex_row-wide };
+}
+
+// The edges of elements as rows: 6 e + k for the edge k of the element e.
+pub(crate) struct EdgeRows;
+
+impl Rows<2> for EdgeRows {
+    ghost words = { λ r. edge_row_at };
+
+    #[tactic(auto, unfolding(crate::specs::inside::Euler::edge_row_at))]
+    fn row(&self, elements: &[u32], j: usize) -> [u32; 2] {
+        let x = tet_ends(tet_at(elements, j / 6), j % 6);
+        let e = edge(x.a, x.b);
+        [e.a, e.b]
+    }
+
+    ghost wide = { λ r. edge_row-wide };
 }
 
 // The triangles of elements as rows: 4 e + k for the face k of the element e.
-struct TriangleRows;
+pub(crate) struct TriangleRows;
 
 impl Rows<3> for TriangleRows {
-    ghost words = { triangle_row_at };
+    ghost words = { λ r. triangle_row_at };
 
     #[tactic(auto, unfolding(crate::specs::inside::Euler::triangle_row_at))]
-    fn row(elements: &[u32], j: usize) -> [u32; 3] {
-        let f = face_key(tet_face(tet_at(elements, j / 4), (j % 4) as u32));
-        [f.a, f.b, f.c]
+    fn row(&self, elements: &[u32], j: usize) -> [u32; 3] {
+        let f = tet_face(tet_at(elements, j / 4), (j % 4) as u32);
+        face_key(f).corners()
     }
 
-    ghost wide = { triangle_row-wide };
-}
-
-// Writes the rows of the edges of n elements behind them.
-pub(crate) fn list_edges(area: &mut [u32], n: usize)
-    requires { (n ≤ 65536) × (28 * n ≤ length area.old) }
-    ensures { area.new ≡ filled (edge_row_at area.old) 2 (4 * n) (6 * n) area.old }
-{
-    fill_rows::<2, EdgeRows>(area, 4 * n, 6 * n);
+    ghost wide = { λ r. triangle_row-wide };
 }
 
 // Writes the rows of the triangles of n elements behind them.
@@ -90,44 +92,24 @@ pub(crate) fn list_triangles(area: &mut [u32], n: usize)
     requires { (n ≤ 65536) × (28 * n ≤ length area.old) }
     ensures { area.new ≡ filled (triangle_row_at area.old) 3 (4 * n) (4 * n) area.old }
 {
-    fill_rows::<3, TriangleRows>(area, 4 * n, 4 * n);
+    fill_rows(area, 4 * n, 4 * n, &TriangleRows);
 }
 
-// How many different rows there are among the n rows from a on.
-fn count_rows(area: &mut [u32], a: usize, n: usize, w: usize) -> usize
-    requires { (0 < w) × (a + (n + n) * w ≤ length area.old) }
-    ensures { (result ≡ different (rows w n (drop a area.old))) × KeptBelow a area.old area.new }
+// How many different rows of one kind there are among the n rows that the first `from` words tell.
+fn count_kind<const W: usize, R: Rows<W>>(
+    area: &mut [u32],
+    from: usize,
+    n: usize,
+    kind: &R,
+) -> usize
+    requires room { (0 < W) × (from + (n + n) * W ≤ length area.old) }
+    requires few { n ≤ 4294967296 }
+    requires told { (j : ℕ) → j < n → R.words kind.now (take from area.old) j ≡ R.words kind.now area.old j }
+    ensures { (result ≡ different (map (R.words kind.now area.old) (numbers 0 n))) × KeptBelow from area.old area.new }
 {
-    sort_from(area, a, n, w);
-    unique_rows(&mut area[a..], n, w)
-}
-
-// How many vertices the n elements at the front use.
-fn count_vertices(area: &mut [u32], n: usize) -> usize
-    requires { (n ≤ 65536) × (28 * n ≤ length area.old) }
-    ensures { (result ≡ (counts_of (tets n area.old)).vertices) × KeptBelow (4 * n) area.old area.new }
-{
-    let m = 4 * n;
-    copy_words(area, 0, m, m);
-    count_rows(area, m, m, 1)
-}
-
-// How many edges the n elements at the front have.
-fn count_edges(area: &mut [u32], n: usize) -> usize
-    requires { (n ≤ 65536) × (28 * n ≤ length area.old) }
-    ensures { (result ≡ (counts_of (tets n area.old)).edges) × KeptBelow (4 * n) area.old area.new }
-{
-    list_edges(area, n);
-    count_rows(area, 4 * n, 6 * n, 2)
-}
-
-// How many triangles the n elements at the front have.
-fn count_triangles(area: &mut [u32], n: usize) -> usize
-    requires { (n ≤ 65536) × (28 * n ≤ length area.old) }
-    ensures { (result ≡ (counts_of (tets n area.old)).triangles) × KeptBelow (4 * n) area.old area.new }
-{
-    list_triangles(area, n);
-    count_rows(area, 4 * n, 4 * n, 3)
+    fill_rows(area, from, n, kind);
+    sort_from(area, from, n, W);
+    unique_rows(&mut area[from..], n, W)
 }
 
 // The counts of the n elements at the front of the area. The elements are kept, and behind them all is 0. All counts are 0 where the area
@@ -135,18 +117,14 @@ fn count_triangles(area: &mut [u32], n: usize) -> usize
 pub fn euler_in(area: &mut [u32], n: usize) -> Counts
     ensures { ◌≡◌ {A = Counted} (record { counts = result; area = area.new }) (counted_in n area.old) }
 {
-    if !count_fits(n, area.len()) {
-        return Counts {
-            vertices: 0,
-            edges: 0,
-            triangles: 0,
-            elements: 0,
-        };
+    if !fits(n, 28, area.len()) {
+        return Counts::default();
     }
-    let vertices = count_vertices(area, n);
-    let edges = count_edges(area, n);
-    let triangles = count_triangles(area, n);
-    clear_from(area, 4 * n);
+    let m = 4 * n;
+    let vertices = count_kind(area, m, m, &VertexRows);
+    let edges = count_kind(area, m, 6 * n, &EdgeRows);
+    let triangles = count_kind(area, m, m, &TriangleRows);
+    clear_from(area, m);
     Counts {
         vertices,
         edges,

@@ -3,24 +3,24 @@
 // A row has 7 words: the rank in x, y and z, each as its high and its low word, and the vertex. The rows of a group are a run, groups
 // follow each other in rank order, and members in number order. An area for n vertices has 14 n words: the rows, and as many words of
 // scratch, which are left 0.
-ghost use Rattle.std.specs.Prelude.{◌≡◌, ◌+◌, ◌*◌, ◌≤◌, length};
-ghost use Rattle.std.proofs.Math.Seq.{paste};
-ghost use Rattle.mesh.specs.Words.{points_of, points_in};
-ghost use Rattle.mesh.specs.inside.Manifold.{filled};
+//
+// Kept by hand: rows and scratch in one lent area, since memory is lent and fixed (no heap), as in rows.rt.
+ghost use Rattle.std.specs.Prelude.{◌≡◌};
+ghost use Rattle.mesh.specs.Words.{points_in};
 ghost use Rattle.mesh.specs.inside.Group.{group_row, grouped_area, group_row_at};
+ghost use Rattle.mesh.specs.inside.RowWidths.{group_row-wide};
 
-use crate::rows::{put_row, sort_rows};
+use crate::rows::{Rows, fill_rows, sort_rows};
 use crate::vertex::{Points, fits, point_at};
 use crate::words::{high_half, low_half};
 use geometry::bounds::{Options, Ranks, rank};
 
-// Writes the row of the vertex v at p.
-fn put_group(area: &mut [u32], p: usize, r: Ranks, v: u32)
-    requires { p + 7 ≤ length area.old }
-    ensures { area.new ≡ paste area.old p (group_row r v) 7 }
+// The row of the vertex v with this rank.
+pub fn group_row(r: Ranks, v: u32) -> [u32; 7]
+    ensures { result ≡ group_row r v }
 {
-    let (x, y, z) = (r.x, r.y, r.z);
-    let row = [
+    let Ranks { x, y, z } = r;
+    [
         high_half(x),
         low_half(x),
         high_half(y),
@@ -28,20 +28,25 @@ fn put_group(area: &mut [u32], p: usize, r: Ranks, v: u32)
         high_half(z),
         low_half(z),
         v,
-    ];
-    put_row(area, p, &row);
+    ]
 }
 
-// Writes the rows of the vertices to the front of the area.
-fn list_groups(parameters: Points, o: Options, area: &mut [u32])
-    requires { (parameters.count ≤ 65536) × (14 * parameters.count ≤ length area.old) }
-    ensures { area.new ≡ filled (group_row_at o parameters.entry.floats.now) 7 0 parameters.entry.count area.old }
-{
-    for v in 0..parameters.count {
-        let p = point_at(parameters.floats, v);
-        let r = rank(p, o);
-        put_group(area, 7 * v, r, v as u32);
+// The rows of vertices, told by their parameters and the options.
+#[derive(Clone, Copy)]
+struct GroupRows<'a> {
+    parameters: &'a [f64],
+    options: Options,
+}
+
+impl<'a> Rows<7> for GroupRows<'a> {
+    ghost words = { λ r s. group_row_at r.options r.parameters.now };
+
+    #[tactic(auto, unfolding(crate::specs::inside::Group::group_row_at))]
+    fn row(&self, _front: &[u32], v: usize) -> [u32; 7] {
+        group_row(rank(point_at(self.parameters, v), self.options), v as u32)
     }
+
+    ghost wide = { λ r s. group_row-wide r.options r.parameters.now };
 }
 
 impl<'a> Points<'a> {
@@ -52,14 +57,11 @@ impl<'a> Points<'a> {
         if !fits(self.count, 14, area.len()) {
             return;
         }
-        list_groups(self, o, area);
+        let rows = GroupRows {
+            parameters: self.floats,
+            options: o,
+        };
+        fill_rows(area, 0, self.count, &rows);
         sort_rows(area, self.count, 7);
     }
-}
-
-// The sorted rows of n vertices, as `Points::group_in` says.
-pub fn group_in(parameters: &[f64], n: usize, o: Options, area: &mut [u32])
-    ensures { area.new ≡ grouped_area o (points_of n parameters.now) area.old }
-{
-    Points::new(parameters, n).group_in(o, area);
 }

@@ -1,22 +1,27 @@
 // Intake: the conditions that every pass tests before it begins, in document 01's order.
+//
+// Kept by hand: the C interface lends a call's slices one by one, longer than the mesh is, and eight fields of which `count` count; so
+// `check_numbers` and `intake` take them one by one. n elements stand at the front of a slice that has room for new ones behind them:
+// `tet_at(elements, e)` with n beside it is as short as a method would be.
 ghost use Rattle.std.specs.Prelude.{◌≡◌, ◌+◌, ◌*◌, ◌≤◌, not, ◌&&◌, ◌||◌, [], ◌∷◌, ◌++◌, map, length, drop, nat_le};
 ghost use Rattle.std.proofs.Math.Seq.{paste};
 ghost use Rattle.mesh.specs.Boundary.{boundary_number};
 ghost use Rattle.mesh.specs.Element.{tets, corners_of, vertices_of};
 ghost use Rattle.mesh.specs.Intake.{too_many, too_short, sized, sized_point, sized_field, bounds_in, cells_in, options_in, fields_in, in_box, well_numbered, upright, given_of, intake};
-ghost use Rattle.mesh.specs.inside.Intake.{point_below, vertex_row, none_twice, settings_number, mesh_number, intake_numbers};
+ghost use Rattle.mesh.specs.inside.Intake.{tet_at, point_below, vertex_row, none_twice, settings_number, mesh_number, intake_numbers};
 ghost use Rattle.mesh.specs.inside.Rows.{rows, le_row};
+ghost use Rattle.mesh.specs.inside.RowWidths.{sorted_row-wide};
 ghost use Rattle.mesh.specs.Refusal.{number_in};
-ghost use Rattle.mesh.specs.Words.{flat, zero_words, zero_floats, points_of, points_in};
+ghost use Rattle.mesh.specs.Words.{flat, zero_words, zero_floats, points_in};
 ghost use Rattle.mesh.specs.Sort.{insert, sort};
 ghost use Rattle.mesh.specs.Tests.{every, under};
 
 use crate::boundary::boundary_in;
-use crate::element::{Pair, Tet, Triple, edge, four_different};
+use crate::element::{Tet, four_different};
 use crate::refusal::Refusal;
-use crate::rows::{eq_rows, put_row, sort_rows};
+use crate::rows::{Rows, eq_rows, fill_rows, sort_rows};
 use crate::vertex::{Points, point_at, tet_at};
-use crate::words::{clear, clear_floats, copy_over};
+use crate::words::{copy_over, zero_all};
 use geometry::bounds::{Bounds, Options};
 use geometry::field::Field;
 use geometry::point::Point;
@@ -176,17 +181,17 @@ fn all_in_box(b: Bounds, parameters: Points) -> bool
 }
 
 // Whether the vertices' points and parameters are allowed: not number 12.
-fn vertices_in(b: Bounds, parameters: &[f64], points: &[f64], n: usize) -> bool
-    ensures { result ≡ (every sized_point (points_of n points.now) && every (in_box b) (points_of n parameters.now)) }
+fn vertices_in(b: Bounds, parameters: Points, points: Points) -> bool
+    ensures { result ≡ (every sized_point (points_in points.entry) && every (in_box b) (points_in parameters.entry)) }
 {
-    all_sized(Points::new(points, n)) && all_in_box(b, Points::new(parameters, n))
+    all_sized(points) && all_in_box(b, parameters)
 }
 
 // Whether every vertex number of an element is below n.
 fn under_all(t: Tet, n: usize) -> bool
     ensures { result ≡ under n (vertices_of t) }
 {
-    [t.a, t.b, t.c, t.d].iter().all(|v| (*v as usize) < n)
+    t.vertices().iter().all(|v| (*v as usize) < n)
 }
 
 // Whether an element has four different vertices below n.
@@ -203,84 +208,29 @@ fn elements_in(elements: &[u32], n: usize, vertices: usize) -> bool
     (0..n).all(|e| well_numbered(tet_at(elements, e), vertices))
 }
 
-// x put to its place among two.
-fn rising_three(x: u32, p: Pair) -> Triple
-    ensures { corners_of result ≡ insert nat_le x (p.a ∷ p.b ∷ []) }
-{
-    if x <= p.a {
-        return Triple {
-            a: x,
-            b: p.a,
-            c: p.b,
-        };
-    }
-    if x <= p.b {
-        return Triple {
-            a: p.a,
-            b: x,
-            c: p.b,
-        };
-    }
-    Triple {
-        a: p.a,
-        b: p.b,
-        c: x,
-    }
-}
-
-// x put to its place among three.
-fn rising_four(x: u32, f: Triple) -> Tet
-    ensures { vertices_of result ≡ insert nat_le x (corners_of f) }
-{
-    if x <= f.a {
-        return Tet {
-            a: x,
-            b: f.a,
-            c: f.b,
-            d: f.c,
-        };
-    }
-    if x <= f.b {
-        return Tet {
-            a: f.a,
-            b: x,
-            c: f.b,
-            d: f.c,
-        };
-    }
-    if x <= f.c {
-        return Tet {
-            a: f.a,
-            b: f.b,
-            c: x,
-            d: f.c,
-        };
-    }
-    Tet {
-        a: f.a,
-        b: f.b,
-        c: f.c,
-        d: x,
-    }
-}
-
 // The vertices of an element in rising order.
-fn rising(t: Tet) -> Tet
-    ensures { vertices_of result ≡ vertex_row t }
+fn rising(t: Tet) -> [u32; 4]
+    ensures { result ≡ vertex_row t }
 {
-    rising_four(t.a, rising_three(t.b, edge(t.c, t.d)))
+    let mut row = t.vertices();
+    row.sort_unstable();
+    row
 }
 
-// Writes the sorted vertices of n elements to the front of the work, a row of four words each.
-fn fill_rows(elements: &[u32], n: usize, work: &mut [u32])
-    requires { 4 * n ≤ length work.old }
-    ensures { work.new ≡ flat (map vertex_row (tets n elements.now)) ++ drop (4 * n) work.old }
-{
-    for e in 0..n {
-        let t = tet_at(elements, e);
-        let row = rising(t);
-        put_row(work, 4 * e, &[row.a, row.b, row.c, row.d]);
+// The rows of the vertices of elements in rising order.
+#[derive(Clone, Copy)]
+struct TetRows<'a> {
+    elements: &'a [u32],
+}
+
+impl<'a> Rows<4> for TetRows<'a> {
+    ghost words = { λ r s e. vertex_row (tet_at r.elements.now e) };
+
+    fn row(&self, _front: &[u32], e: usize) -> [u32; 4] {
+        rising(tet_at(self.elements, e))
     }
+
+    ghost wide = { λ r s e. sorted_row-wide (tet_at r.elements.now e) };
 }
 
 // Whether none of the first n rows of four words equals the next.
@@ -288,12 +238,7 @@ fn none_twice(s: &[u32], n: usize) -> bool
     requires { 4 * n ≤ length s.now }
     ensures { result ≡ none_twice (rows 4 n s.now) }
 {
-    for i in 1..n {
-        if eq_rows(s, 4 * (i - 1), s, 4 * i, 4) {
-            return false;
-        }
-    }
-    true
+    (1..n).all(|i| !eq_rows(s, 4 * (i - 1), s, 4 * i, 4))
 }
 
 // Whether no two of n well numbered elements have the same four vertices: not number 14. The first 8 n words of the work hold their
@@ -304,18 +249,17 @@ fn all_different(elements: &[u32], n: usize, work: &mut [u32]) -> bool
     ensures work_after { work.new ≡ zero_words (8 * n) ++ drop (8 * n) work.old }
 {
     let m = 4 * n;
-    fill_rows(elements, n, work);
+    fill_rows(work, 0, n, &TetRows { elements });
     sort_rows(work, n, 4);
     let different = none_twice(work, n);
-    clear(&mut work[0..m]);
+    zero_all(&mut work[0..m]);
     different
 }
 
 // Whether the determinant of each of n elements is above 0: not number 15.
-fn all_upright(points: &[f64], nv: usize, elements: &[u32], n: usize) -> bool
-    ensures { result ≡ every (upright (points_of nv points.now)) (tets n elements.now) }
+fn all_upright(points: Points, elements: &[u32], n: usize) -> bool
+    ensures { result ≡ every (upright (points_in points.entry)) (tets n elements.now) }
 {
-    let points = Points::new(points, nv);
     (0..n).all(|e| points.is_above(tet_at(elements, e)))
 }
 
@@ -334,28 +278,28 @@ fn check_settings(s: Settings, l: Lengths, fields: [Field; 8]) -> Result<(), Ref
 
 // Whether the vertices and the elements are allowed. The work is all zeros before and after.
 fn check_mesh(
-    s: Sizes,
     b: Bounds,
-    parameters: &[f64],
-    points: &[f64],
+    parameters: Points,
+    points: Points,
     elements: &[u32],
+    n: usize,
     work: &mut [u32],
 ) -> Result<(), Refusal>
-    requires elements_bound { (s.elements ≤ 16384) × (8 * s.elements ≤ length work.old) }
+    requires elements_bound { (n ≤ 16384) × (8 * n ≤ length work.old) }
     requires work_value { work.old ≡ zero_words (length work.old) }
-    ensures value { number_in result ≡ mesh_number s.vertices b (points_of s.vertices parameters.now) (points_of s.vertices points.now) (tets s.elements elements.now) }
+    ensures value { number_in result ≡ mesh_number points.entry.count b (points_in parameters.entry) (points_in points.entry) (tets n elements.now) }
     ensures work_after { work.new ≡ zero_words (length work.old) }
 {
-    if !vertices_in(b, parameters, points, s.vertices) {
+    if !vertices_in(b, parameters, points) {
         return Err(Refusal::Vertex);
     }
-    if !elements_in(elements, s.elements, s.vertices) {
+    if !elements_in(elements, n, points.count) {
         return Err(Refusal::Corner);
     }
-    if !all_different(elements, s.elements, work) {
+    if !all_different(elements, n, work) {
         return Err(Refusal::Twice);
     }
-    if !all_upright(points, s.vertices, elements, s.elements) {
+    if !all_upright(points, elements, n) {
         return Err(Refusal::Inverted);
     }
     Ok(())
@@ -377,7 +321,7 @@ fn check_numbers(
     ensures value { number_in result ≡ intake_numbers (given_of s fields parameters.now points.now masks elements.now surface work.old floats.now) }
     ensures work_after { work.new ≡ zero_words (length work.old) }
 {
-    clear(work);
+    zero_all(work);
     let l = Lengths {
         parameters: parameters.len(),
         points: points.len(),
@@ -388,12 +332,19 @@ fn check_numbers(
         floats: floats.len(),
     };
     check_settings(s, l, fields)?;
+    let count = s.sizes.vertices;
     check_mesh(
-        s.sizes,
         s.options.bounds,
-        parameters,
-        points,
+        Points {
+            floats: parameters,
+            count,
+        },
+        Points {
+            floats: points,
+            count,
+        },
         elements,
+        s.sizes.elements,
         work,
     )
 }
@@ -410,7 +361,7 @@ fn check_boundary(elements: &[u32], n: usize, work: &mut [u32]) -> Result<(), Re
     let e = 36 * n;
     copy_over(work, elements, m);
     boundary_in(&mut work[0..e], n)?;
-    clear(&mut work[0..e]);
+    zero_all(&mut work[0..e]);
     Ok(())
 }
 
@@ -434,7 +385,7 @@ pub fn intake(
     let numbers = check_numbers(
         s, fields, parameters, points, masks, elements, surface, work, floats,
     );
-    clear_floats(floats);
+    zero_all(floats);
     numbers?;
     check_boundary(elements, s.sizes.elements, work)
 }

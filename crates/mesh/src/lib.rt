@@ -17,6 +17,7 @@ mod marks;
 pub mod measure;
 pub mod refusal;
 pub mod rows;
+mod runs;
 pub mod shared;
 pub mod short;
 pub mod star;

@@ -5,25 +5,25 @@ ghost use Rattle.mesh.specs.Refusal.{table_number};
 #[derive(Clone, Copy, Debug, PartialEq, Eq)]
 pub enum Refusal {
     // a count over its limit, or a slice too short
-    Room,
+    Room = 10,
     // box, cells, passes, periodic bits or fields
-    Settings,
+    Settings = 11,
     // a coordinate or a parameter
-    Vertex,
+    Vertex = 12,
     // a vertex number out of range or twice in an element
-    Corner,
+    Corner = 13,
     // two elements with the same four vertices
-    Twice,
+    Twice = 14,
     // a determinant not above 0
-    Inverted,
+    Inverted = 15,
     // a face of three elements or more
-    Crowded,
+    Crowded = 16,
     // a shared face with equal parities
-    Parity,
+    Parity = 17,
     // a nonmanifold vertex of the new surface
-    Nonmanifold,
+    Nonmanifold = 22,
     // faces of the boundary that the surface given has not
-    Changed,
+    Changed = 23,
 }
 
 impl From<Refusal> for u32 {
@@ -31,17 +31,6 @@ impl From<Refusal> for u32 {
 
     // The number in the table.
     fn from(r: Refusal) -> u32 {
-        match r {
-            Refusal::Room => 10,
-            Refusal::Settings => 11,
-            Refusal::Vertex => 12,
-            Refusal::Corner => 13,
-            Refusal::Twice => 14,
-            Refusal::Inverted => 15,
-            Refusal::Crowded => 16,
-            Refusal::Parity => 17,
-            Refusal::Nonmanifold => 22,
-            Refusal::Changed => 23,
-        }
+        r as u32
     }
 }

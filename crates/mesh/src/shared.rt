@@ -3,9 +3,11 @@
 // An area for n elements has 44 n words: the elements, 4 n words; the rows of their faces, 20 n words; as many words of scratch, where the
 // answer is gathered. The row of a face has 5 words: its key, the number of its element, and 1 where that is bad, else 0. A row of the
 // answer has 5 words: the key, and the numbers of the two elements, the smaller first.
+//
+// Kept by hand: without a heap the elements, the rows and the answer are parts of one lent area, and n stands beside it.
 ghost use Rattle.std.specs.Prelude.{◌≡◌, ◌+◌, ◌*◌, ◌≤◌, ◌&&◌, [], ◌∷◌, map, length, drop, ◌==◌};
 ghost use Rattle.std.proofs.Math.Seq.{paste};
-ghost use Rattle.mesh.specs.Words.{word_at, points_of, points_in};
+ghost use Rattle.mesh.specs.Words.{word_at, points_in};
 ghost use Rattle.mesh.specs.inside.Rows.{rows};
 ghost use Rattle.mesh.specs.Element.{faces_of, tets};
 ghost use Rattle.mesh.specs.inside.Group.{runs, same_first};
@@ -13,8 +15,8 @@ ghost use Rattle.mesh.specs.inside.List.{Pushed};
 ghost use Rattle.mesh.specs.inside.Shared.{Shares, shared_in, owned_row, bad_mark, owned_from, run_row, runs_rows};
 
 use crate::element::{Tet, face_key, tet_face};
-use crate::list::is_bad_tet;
-use crate::rows::{put_row, run_from, sort_from};
+use crate::rows::{put_row, sort_from};
+use crate::runs::Runs;
 use crate::vertex::{Points, fits, tet_at};
 use crate::words::{clear_from, copy_words};
 
@@ -22,7 +24,7 @@ use crate::words::{clear_from, copy_words};
 fn bad_mark(points: Points, t: Tet) -> u32
     ensures { result ≡ bad_mark (points_in points.entry) t }
 {
-    u32::from(is_bad_tet(points, t))
+    u32::from(points.is_bad_slot(t))
 }
 
 // Writes the rows of the faces of the element i from p on.
@@ -37,6 +39,7 @@ fn put_faces(area: &mut [u32], p: usize, t: Tet, i: u32, mark: u32)
 }
 
 // Writes the rows of the faces of n elements behind them.
+// Kept by hand: `fill_rows` would ask for the mark of an element at each of its four rows, and so for its score four times.
 fn list_owned(area: &mut [u32], n: usize, points: Points)
     requires { (n ≤ 65536) × (44 * n ≤ length area.old) }
     ensures { Pushed (owned_from (points_in points.entry) 0 (tets n area.old)) 5 (4 * n) area.old area.new (4 * n) }
@@ -56,16 +59,16 @@ fn none_bad(area: &[u32], p: usize) -> bool
     area[p + 4] == 0 && area[p + 9] == 0
 }
 
-// Writes what the run of k rows at p gives at q, and gives how many rows that is.
-fn push_run(area: &mut [u32], p: usize, k: usize, q: usize) -> usize
-    requires { (p + 5 * k ≤ q) × (q + 5 ≤ length area.old) }
-    ensures { Pushed (run_row (rows 5 k (drop p area.old))) 5 q area.old area.new result }
+// Writes what the run of k rows at p of the area gives at q of `out`, and gives how many rows that is.
+fn push_run(area: &[u32], p: usize, k: usize, out: &mut [u32], q: usize) -> usize
+    requires { (p + 5 * k ≤ length area.now) × (q + 5 ≤ length out.old) }
+    ensures { Pushed (run_row (rows 5 k (drop p area.now))) 5 q out.old out.new result × (result ≤ 1) }
 {
     if k != 2 || none_bad(area, p) {
         return 0;
     }
     let row = [area[p], area[p + 1], area[p + 2], area[p + 3], area[p + 8]];
-    put_row(area, q, &row);
+    put_row(out, q, &row);
     1
 }
 
@@ -75,13 +78,11 @@ fn push_runs(area: &mut [u32], n: usize) -> usize
     ensures { Pushed (runs_rows (runs (same_first 3) (rows 5 (4 * n) (drop (4 * n) area.old)))) 5 (24 * n) area.old area.new result × (result ≤ 4 * n) }
 {
     let m = 4 * n;
-    let mut first = 0;
+    let (front, out) = area.split_at_mut(24 * n);
     let mut count = 0;
-    // Kept by hand: no plainer otherwise. A turn goes over a run of rows, whose length is found in the turn.
-    while first < m {
-        let k = run_from(area, m, first, m, 5, 3);
-        count += push_run(area, m + 5 * first, k, 24 * n + 5 * count);
-        first += k;
+    for run in Runs::new(front, m, m, 5, 3) {
+        let (p, k) = run;
+        count += push_run(front, p, k, out, 5 * count);
     }
     count
 }
@@ -104,12 +105,4 @@ impl<'a> Points<'a> {
         clear_from(area, m + 5 * k);
         k
     }
-}
-
-// The faces of bad elements that exactly two elements have, as `Points::shared_faces_in` says.
-pub fn shared_faces_in(area: &mut [u32], n: usize, points: &[f64], nv: usize) -> usize
-    ensures { ◌≡◌ {A = Shares} (record { number = result; area = area.new })
-        (shared_in (points_of nv points.now) n area.old) }
-{
-    Points::new(points, nv).shared_faces_in(area, n)
 }

@@ -4,7 +4,7 @@ ghost use Rattle.mesh.specs.Words.{point_at, points_of, points_in, point_in};
 ghost use Rattle.mesh.specs.inside.Intake.{tet_at};
 
 use crate::element::Tet;
-use crate::words::{float, word};
+use crate::words::at;
 use geometry::point::Point;
 
 // Whether n is at most 65,536 and an area with `each` words for each of n fits into m words.
@@ -20,19 +20,14 @@ pub fn tet_at(elements: &[u32], e: usize) -> Tet
     ensures { result ≡ tet_at elements.now e }
 {
     if elements.len() / 4 < e {
-        return Tet {
-            a: 0,
-            b: 0,
-            c: 0,
-            d: 0,
-        };
+        return Tet::default();
     }
     let i = 4 * e;
     Tet {
-        a: word(elements, i),
-        b: word(elements, i + 1),
-        c: word(elements, i + 2),
-        d: word(elements, i + 3),
+        a: at(elements, i),
+        b: at(elements, i + 1),
+        c: at(elements, i + 2),
+        d: at(elements, i + 3),
     }
 }
 
@@ -40,6 +35,8 @@ pub fn tet_at(elements: &[u32], e: usize) -> Tet
 pub fn point_at(points: &[f64], v: usize) -> Point
     ensures { result ≡ point_in points.now v }
 {
+    // Kept by hand: tried without this test and the zero point, `let i = 3 * v.min(points.len())`; it proves, and reading the points of
+    // elements takes 1.6 times as long (12.2 for 7.7 ms, 6,553,600 points). The same in `tet_at`: 1.2 times.
     if points.len() / 3 < v {
         return Point {
             x: 0.0,
@@ -49,9 +46,9 @@ pub fn point_at(points: &[f64], v: usize) -> Point
     }
     let i = 3 * v;
     Point {
-        x: float(points, i),
-        y: float(points, i + 1),
-        z: float(points, i + 2),
+        x: at(points, i),
+        y: at(points, i + 1),
+        z: at(points, i + 2),
     }
 }
 
@@ -77,17 +74,11 @@ impl<'a> Points<'a> {
         if i < self.count {
             return point_at(self.floats, i);
         }
+        // Kept by hand: no plainer otherwise. The floats may go on behind the last vertex, so that `point_at` is no answer here.
         Point {
             x: 0.0,
             y: 0.0,
             z: 0.0,
         }
     }
-}
-
-// The point of the vertex v of nv, 0 0 0 past the last.
-pub fn vertex_point(points: &[f64], nv: usize, v: u32) -> Point
-    ensures { result ≡ point_at (points_of nv points.now) v }
-{
-    Points::new(points, nv).at(v)
 }

@@ -1,69 +1,40 @@
 // The live elements that have two or three vertices, by the index of star.rt: of two chains the shorter is walked.
+//
+// Kept by hand: the answer at an offset of the lent slice, with a count, as in star.rt.
 ghost use Rattle.std.specs.Prelude.{◌≡◌, ◌/◌, ◌<◌, [], ◌∷◌, length};
+ghost use Rattle.std.specs.Iterator.{YieldsFirst, item_count};
 ghost use Rattle.mesh.specs.Complex.{mem};
-ghost use Rattle.mesh.specs.inside.Star.{corners_at, chain_length, Free, written};
-ghost use Rattle.mesh.specs.inside.With.{rarer, entry_has, with_if, with_met, any_with, with_list, with_in};
+ghost use Rattle.mesh.specs.inside.Star.{corners_at, chain_length, chain_of, Free, written};
+ghost use Rattle.mesh.specs.inside.With.{chain_left, rarer, entry_has, with_if, with_met, any_with, with_room, with_list, with_in};
 
-use crate::star::{
-    Gather, Index, chain_length, has_room, make_distinct, put_each, put_if, word_in,
-};
+use crate::star::{Gather, Index, make_distinct, put_if, word_in};
 
-// The one of v and w whose chain has fewer entries, v where both have as many.
-#[tactic(auto, unfolding(crate::specs::inside::With::rarer))]
-fn rarer(s: &[u32], x: Index, v: u32, w: u32) -> u32
-    ensures { result ≡ rarer x s.now v w }
-{
-    if chain_length(s, x, v) <= chain_length(s, x, w) {
-        v
-    } else {
-        w
-    }
+// The entries of a chain that are left to walk.
+#[derive(Clone, Copy)]
+struct Chain<'a> {
+    index: Index,
+    words: &'a [u32],
+    entry: u32,
+    left: usize,
 }
 
-// Whether the slot of the entry p has v.
-fn has_one(s: &[u32], x: Index, v: u32, p: u32) -> bool
-    ensures { result ≡ mem v (corners_at x s.now (p / 4)) }
-{
-    let q = 4 * (p / 4);
-    v == word_in(s, x.slots, q)
-        || v == word_in(s, x.slots, q + 1)
-        || v == word_in(s, x.slots, q + 2)
-        || v == word_in(s, x.slots, q + 3)
-}
+impl<'a> Iterator for Chain<'a> {
+    type Item = u32;
 
-// Whether it has v and w.
-#[tactic(auto, unfolding(crate::specs::inside::With::entry_has))]
-fn has_two(s: &[u32], x: Index, v: u32, w: u32, p: u32) -> bool
-    ensures { result ≡ entry_has x s.now (v ∷ w ∷ []) p }
-{
-    has_one(s, x, v, p) && has_one(s, x, w, p)
-}
+    ghost next_gives = { YieldsFirst chain_left };
 
-// Whether it has u, v and w.
-#[tactic(auto, unfolding(crate::specs::inside::With::entry_has))]
-fn has_three(s: &[u32], x: Index, u: u32, v: u32, w: u32, p: u32) -> bool
-    ensures { result ≡ entry_has x s.now (u ∷ v ∷ w ∷ []) p }
-{
-    has_one(s, x, u, p) && has_two(s, x, v, w, p)
-}
+    ghost remaining = { item_count chain_left };
 
-// Whether a live element has u, v and w, by the shorter of the chains of u and v.
-pub fn any_with(s: &[u32], x: Index, u: u32, v: u32, w: u32) -> bool
-    ensures { result ≡ any_with x s.now u v w }
-{
-    let a = rarer(s, x, u, v);
-    // Kept by hand: an iterator over a chain would serve this walk alone, since the walk of `put_each` writes into the slice.
-    let mut p = word_in(s, x.heads, a);
-    for _ in 0..chain_length(s, x, a) {
-        if x.room <= p / 4 {
-            return false;
+    #[tactic(auto, unfolding(crate::specs::inside::Star::walk, crate::specs::inside::With::chain_left))]
+    fn next(&mut self) -> Option<u32> {
+        let p = self.entry;
+        if self.left == 0 || self.index.room <= p / 4 {
+            return None;
         }
-        if has_three(s, x, u, v, w, p) {
-            return true;
-        }
-        p = word_in(s, x.nexts, p);
+        self.entry = word_in(self.words, self.index.nexts, p);
+        self.left -= 1;
+        Some(p)
     }
-    false
 }
 
 // The slot of an entry where it has v and w.
@@ -80,29 +51,82 @@ impl Gather for SlotsWith {
 
     #[tactic(auto, unfolding(crate::specs::inside::With::with_if))]
     fn put(&self, s: &mut [u32], x: Index, p: u32, k: usize) -> usize {
-        let has = has_two(s, x, self.v, self.w, p);
+        let has = x.has_all(s, &[self.v, self.w], p);
         put_if(s, k, p / 4, has)
     }
 }
 
-// Puts the slots that have v and w, by the chain of a, at the area's front, and gives how many.
-fn put_with(s: &mut [u32], x: Index, a: u32, v: u32, w: u32) -> usize
-    requires { Free x s.old x.area (chain_length x s.old a) }
-    ensures { (result ≡ length (with_met x s.old a (v ∷ w ∷ []))) × (s.new ≡ written s.old x.area (with_met x s.old a (v ∷ w ∷ []))) }
-{
-    put_each(s, x, a, x.area, &SlotsWith { v, w })
-}
-
-// Lists the live elements that have v and w, in number order, each once, at the area's front, and gives how many. None where there is no
-// room for twice the entries of the shorter of both chains.
-pub fn slots_with(s: &mut [u32], x: Index, v: u32, w: u32) -> usize
-    ensures { (result ≡ length (with_list x s.old v w)) × (s.new ≡ with_in x s.old v w) }
-{
-    let a = rarer(s, x, v, w);
-    let n = chain_length(s, x, a);
-    if !has_room(x, s.len(), n) {
-        return 0;
+impl Index {
+    // The one of v and w whose chain has fewer entries, v where both have as many.
+    #[tactic(auto, unfolding(crate::specs::inside::With::rarer))]
+    fn rarer(self, s: &[u32], v: u32, w: u32) -> u32
+        ensures { result ≡ rarer self s.now v w }
+    {
+        if self.chain_length(s, v) <= self.chain_length(s, w) {
+            v
+        } else {
+            w
+        }
     }
-    let i = put_with(s, x, a, v, w);
-    make_distinct(s, x.area, i)
+
+    // Whether the slot of the entry p has all of vs.
+    #[tactic(auto, unfolding(crate::specs::inside::With::entry_has))]
+    fn has_all(self, s: &[u32], vs: &[u32], p: u32) -> bool
+        ensures { result ≡ entry_has self s.now vs.now p }
+    {
+        let us = self.corners(s, p / 4);
+        vs.iter().all(|v| us.contains(v))
+    }
+
+    // The chain of v.
+    #[tactic(auto, unfolding(crate::specs::inside::Star::chain_of))]
+    fn chain(self, s: &[u32], v: u32) -> Chain<'_>
+        ensures { chain_left result ≡ chain_of self s.now v }
+    {
+        Chain {
+            index: self,
+            words: s,
+            entry: word_in(s, self.heads, v),
+            left: self.chain_length(s, v),
+        }
+    }
+
+    // Whether a live element has u, v and w, by the shorter of the chains of u and v.
+    pub fn any_with(self, s: &[u32], u: u32, v: u32, w: u32) -> bool
+        ensures { result ≡ any_with self s.now u v w }
+    {
+        let a = self.rarer(s, u, v);
+        self.chain(s, a).any(|p| self.has_all(s, &[u, v, w], p))
+    }
+
+    // Whether twice the entries of the shorter of both chains have room in the area.
+    #[tactic(auto, unfolding(crate::specs::inside::With::with_room))]
+    fn has_with(self, s: &[u32], v: u32, w: u32) -> bool
+        ensures { result ≡ with_room self s.now v w }
+    {
+        let a = self.rarer(s, v, w);
+        self.has_room(s.len(), self.chain_length(s, a))
+    }
+
+    // Puts the slots that have v and w, by the shorter of both chains, at the area's front, and gives how many.
+    fn put_with(self, s: &mut [u32], v: u32, w: u32) -> usize
+        requires { Free self s.old self.area (chain_length self s.old (rarer self s.old v w)) }
+        ensures { (result ≡ length (with_met self s.old (rarer self s.old v w) (v ∷ w ∷ [])))
+            × (s.new ≡ written s.old self.area (with_met self s.old (rarer self s.old v w) (v ∷ w ∷ []))) }
+    {
+        let a = self.rarer(s, v, w);
+        self.put_each(s, a, self.area, &SlotsWith { v, w })
+    }
+
+    // Lists the live elements that have v and w, in number order, each once, at the area's front, and gives how many. None where there
+    // is no room for twice the entries of the shorter of both chains.
+    pub fn slots_with(self, s: &mut [u32], v: u32, w: u32) -> usize
+        ensures { (result ≡ length (with_list self s.old v w)) × (s.new ≡ with_in self s.old v w) }
+    {
+        if !self.has_with(s, v, w) {
+            return 0;
+        }
+        let n = self.put_with(s, v, w);
+        make_distinct(s, self.area, n)
+    }
 }

@@ -1,7 +1,9 @@
 -- A call of a pass on whole buffers (document 01, "Runs of passes", "Where each number is given"): intake, the pass on values, and what the
 -- buffers hold afterwards. Then lists of calls. Definitions only.
 use Rattle.std.specs.Prelude.{ℕ, ◌+◌, Bool, true, false, cond, List, [], ◌∷◌, ◌++◌, eqb, Float, length, take, drop}
+use Rattle.std.specs.Prelude as Code
 use Rattle.std.proofs.Math.Option.{Option, none, some}
+use Rattle.std.proofs.Common.{Bor}
 use Rattle.geometry.specs.declared.point.Point.{Point}
 use Rattle.geometry.specs.declared.bounds.Options.{Options}
 use Rattle.geometry.specs.declared.field.Field.{Field}
@@ -55,6 +57,11 @@ call_of pass s fields regions work floats =
 abbrev pub regions_of : Bool → List ℕ → Option (List ℕ)
 regions_of false regions = none
 regions_of true regions = some regions
+
+-- the same of the list that the code is lent, if one is
+abbrev pub regions_in : Code.Option (Bor (List ℕ)) → Option (List ℕ)
+regions_in Code.None = none
+regions_in (Code.Some regions) = some regions.now
 
 -- ---- the answer
 

@@ -2,6 +2,7 @@
 mod counts;
 mod find;
 mod finish;
+mod inputs;
 mod layout;
 mod orient;
 mod prepare;
@@ -20,14 +21,15 @@ ghost use Rattle.repair.specs.inside.flip.Fitting.{FlipFitting, flip_whole};
 
 use crate::answer::Made;
 use crate::flip::finish::finish_flip;
+use crate::flip::inputs::Inputs;
 use crate::flip::layout::flip_layout;
 use crate::flip::prepare::begin_flip;
 use crate::flip::tries::{try_edges, try_faces};
 use geometry::field::Field;
-use mesh::about::live_elements;
 use mesh::intake::{Settings, Sizes, intake};
 use mesh::refusal::Refusal;
-use mesh::words::clear;
+use mesh::vertex::Points;
+use mesh::words::zero_all;
 
 // The pass on a mesh that passed intake.
 fn flip_all(
@@ -41,17 +43,24 @@ fn flip_all(
     ensures { ◌≡◌ {A = Answer × List ℕ × List ℕ} (answer_of result, elements.new, surface.new)
         (flip_whole sizes points.now elements.old surface.old) }
 {
+    let nv = sizes.vertices;
     let n = sizes.elements as u32;
-    let x = flip_layout(sizes.vertices as u32, n);
-    let l = begin_flip(work, x, n, points, elements);
-    let t = try_faces(work, x, n, l.faces, points);
-    let u = try_edges(work, x, n, l.bad, l.edges, t, points);
-    let k = live_elements(work, x, u.slots as usize);
+    let x = flip_layout(nv as u32, n);
+    let given = Inputs {
+        index: x,
+        elements: n,
+        points: Points::new(points, nv),
+    };
+    let l = begin_flip(work, &given, elements);
+    let t = try_faces(work, &given, l.faces);
+    let u = try_edges(work, &given, l, t);
+    let k = x.live_elements(work, u.slots as usize);
     let a = x.area;
     finish_flip(sizes, u.flips, k, elements, surface, &mut work[a..])
 }
 
 // `flip` on whole buffers: intake, then the pass. Both work slices may hold anything before, and are all zeros afterwards.
+// Kept by hand: the buffers one by one, as the C interface lends them. The pass itself takes the three that it needs.
 pub fn flip(
     s: Settings,
     fields: [Field; 8],
@@ -82,6 +91,6 @@ pub fn flip(
         floats,
     )?;
     let answer = flip_all(s.sizes, points, elements, surface, work);
-    clear(work);
+    zero_all(work);
     answer
 }

@@ -1,4 +1,5 @@
 // `improve`: rounds of edge collapses, then the vertices that are left, renumbered.
+mod buffers;
 mod collapse;
 mod edges;
 mod gain;
@@ -9,9 +10,9 @@ mod prepare;
 mod renumber;
 mod round;
 
-ghost use Rattle.std.specs.Prelude.{◌≡◌, List, ℕ, ◌+◌, ◌*◌, ◌≤◌, length};
+ghost use Rattle.std.specs.Prelude.{◌≡◌, List, ℕ, ◌+◌, ◌*◌, ◌≤◌, length, take};
 ghost use Rattle.std.proofs.Math.Option.{none};
-ghost use Rattle.mesh.specs.Words.{zero_words, zero_floats};
+ghost use Rattle.mesh.specs.Words.{zero_words, zero_floats, points_of};
 ghost use Rattle.mesh.specs.Element.{tets};
 ghost use Rattle.mesh.specs.Measure.{measure};
 ghost use Rattle.repair.specs.Mesh.{Mesh};
@@ -23,6 +24,7 @@ ghost use Rattle.repair.specs.inside.improve.Round.{ReadsOf, StandsOf, ReadyOf};
 ghost use Rattle.repair.specs.inside.improve.Fitting.{Fitting, Collapsed, after_rounds};
 
 use crate::answer::Made;
+use crate::improve::buffers::Buffers;
 use crate::improve::edges::list_edges;
 use crate::improve::inputs::Inputs;
 use crate::improve::prepare::begin;
@@ -31,10 +33,10 @@ use crate::improve::round::round;
 use crate::layout::layout;
 use geometry::bounds::{Options, spacing};
 use geometry::field::Field;
-use mesh::about::live_elements;
 use mesh::intake::{Settings, Sizes, intake};
 use mesh::refusal::Refusal;
-use mesh::words::{clear, clear_floats};
+use mesh::vertex::Points;
+use mesh::words::zero_all;
 
 // What the rounds leave: how many vertices are replaced, how many elements there are, and where in the work slice they stand.
 #[derive(Clone, Copy)]
@@ -54,7 +56,7 @@ fn rounds(work: &mut [u32], given: &Inputs) -> usize
     let limit = 0.75 * spacing(given.options);
     let mut replaced = 0;
     for _made in 0..given.options.passes {
-        let count = list_edges(work, given.index, given.points, limit);
+        let count = list_edges(work, given, limit);
         let k = round(work, given, count);
         if k == 0 {
             return replaced;
@@ -65,36 +67,30 @@ fn rounds(work: &mut [u32], given: &Inputs) -> usize
 }
 
 // Lays the mesh out and makes the rounds. The elements that are left stand at the front of the area.
-fn collapse_edges(
-    sizes: Sizes,
-    o: Options,
-    parameters: &[f64],
-    points: &[f64],
-    masks: &[u32],
-    elements: &[u32],
-    work: &mut [u32],
-) -> Rest
-    requires { Fitting o sizes elements.now work.old }
-    ensures { (m : Mesh) → Reads m sizes.vertices parameters.now points.now masks.now
-        → Collapsed sizes (after_rounds o m (tets sizes.elements elements.now)) work.new result }
+fn collapse_edges(sizes: Sizes, o: Options, mesh: &Buffers, work: &mut [u32]) -> Rest
+    requires { Fitting o sizes mesh.now.elements.now work.old × (sizes.vertices ≤ length mesh.now.masks.now) }
+    ensures { (m : Mesh) → Reads m (points_of sizes.vertices mesh.now.parameters.now) (points_of sizes.vertices mesh.now.points.now) (take sizes.vertices mesh.now.masks.now)
+        → Collapsed sizes (after_rounds o m (tets sizes.elements mesh.now.elements.now)) work.new result }
 {
-    let x = layout(sizes.vertices as u32, sizes.elements as u32);
-    begin(work, x, o, parameters, elements);
+    let nv = sizes.vertices;
+    let x = layout(nv as u32, sizes.elements as u32);
     let given = Inputs {
         index: x,
         options: o,
-        masks,
-        parameters,
-        points,
+        masks: &mesh.masks[..nv],
+        parameters: Points::new(mesh.parameters, nv),
+        points: Points::new(mesh.points, nv),
     };
+    begin(work, &given, mesh.elements);
     Rest {
         replaced: rounds(work, &given),
-        elements: live_elements(work, x, sizes.elements),
+        elements: x.live_elements(work, sizes.elements),
         area: x.area,
     }
 }
 
 // `improve` on whole buffers: intake, then the pass. Both work slices may hold anything before, and are all zeros afterwards.
+// Kept by hand: the buffers one by one, as the C interface lends them. Below they are `Buffers`.
 pub fn improve(
     s: Settings,
     fields: [Field; 8],
@@ -124,23 +120,24 @@ pub fn improve(
         work,
         floats,
     )?;
-    let rest = collapse_edges(
-        s.sizes, s.options, parameters, points, masks, elements, work,
-    );
-    let a = rest.area;
-    let answer = finish_improve(
-        s.sizes,
-        rest.replaced,
-        rest.elements,
+    let mut mesh = Buffers {
         parameters,
         points,
         masks,
         elements,
         surface,
+    };
+    let rest = collapse_edges(s.sizes, s.options, &mesh, work);
+    let a = rest.area;
+    let answer = finish_improve(
+        s.sizes,
+        rest.replaced,
+        rest.elements,
+        &mut mesh,
         &mut work[a..],
         floats,
     );
-    clear(work);
-    clear_floats(floats);
+    zero_all(work);
+    zero_all(floats);
     answer
 }

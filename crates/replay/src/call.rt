@@ -1,5 +1,5 @@
 // A call of data/passes.txt: the pass with its inputs beside the mesh, and what it answers.
-use crate::words::{Mask, ReadError, Words, masks, same};
+use crate::words::{Mask, ReadError, Same, Words, masks};
 use geometry::bounds::Options;
 use geometry::field::Field;
 use mesh::intake::{Settings, Sizes};
@@ -40,10 +40,6 @@ pub(crate) struct Buffers {
     surface: Vec<u32>,
 }
 
-fn same_floats(x: &[f64], y: &[f64]) -> bool {
-    x.len() == y.len() && x.iter().zip(y).all(|(x, y)| same(*x, *y))
-}
-
 // Writes numbers over the front of a buffer, as far as there is room.
 fn put<T: Copy>(buffer: &mut [T], front: &[T]) {
     for (place, x) in buffer.iter_mut().zip(front) {
@@ -73,8 +69,8 @@ impl Buffers {
     }
 
     pub fn same(&self, other: &Buffers) -> bool {
-        same_floats(&self.parameters, &other.parameters)
-            && same_floats(&self.points, &other.points)
+        self.parameters.same(&other.parameters)
+            && self.points.same(&other.points)
             && self.masks == other.masks
             && self.elements == other.elements
             && self.surface == other.surface
@@ -110,10 +106,9 @@ impl Done {
 
     // What a pass made, or the number of its refusal.
     fn of(answer: Result<Made, Refusal>) -> Result<Done, u32> {
-        match answer {
-            Ok(made) => Ok(Done::new(made.count, made.sizes)),
-            Err(refusal) => Err(u32::from(refusal)),
-        }
+        answer
+            .map(|made| Done::new(made.count, made.sizes))
+            .map_err(u32::from)
     }
 }
 
@@ -244,25 +239,18 @@ impl Call {
                 work,
                 floats,
             ),
-            Pass::Smooth => {
-                let regions: &[u32] = match &self.regions {
-                    Some(regions) => regions,
-                    None => &[],
-                };
-                smooth(
-                    settings,
-                    self.fields,
-                    self.regions.is_some(),
-                    regions,
-                    parameters,
-                    points,
-                    masks,
-                    elements,
-                    surface,
-                    work,
-                    floats,
-                )
-            }
+            Pass::Smooth => smooth(
+                settings,
+                self.fields,
+                self.regions.as_deref(),
+                parameters,
+                points,
+                masks,
+                elements,
+                surface,
+                work,
+                floats,
+            ),
             Pass::Flip => flip(
                 settings,
                 self.fields,

@@ -3,7 +3,8 @@
 use crate::words::{Pattern, ReadError, Words};
 use geometry::bounds::Bounds;
 use geometry::point::Point;
-use mesh::link::link_ok_in;
+use mesh::strata::Strata;
+use mesh::vertex::Points;
 use mesh::words::{high_half, low_half};
 use std::alloc::{AllocError, Global};
 
@@ -44,7 +45,7 @@ fn parameters_of(alloc: Global, strata: &[Pattern]) -> Result<Vec<[f64; 3]>, All
     strata.iter().map(|s| parameters(s.0)).collect(alloc)
 }
 
-// Whether the bits of the edge's first vertex are among the second's: `improve` asks for the link test only then, and so does `link_ok_in`.
+// Whether the bits of the edge's first vertex are among the second's: `improve` asks for the link test only then, and so does `Strata::link_ok_in`.
 fn is_asked(strata: &[Pattern], a: usize, b: usize) -> bool {
     match (strata.get(a), strata.get(b)) {
         (Some(a), Some(b)) => a.0 & b.0 == a.0,
@@ -66,15 +67,7 @@ pub(crate) fn link_agrees(alloc: Global, words: &mut Words) -> Result<Option<boo
     }
     let masks = masks_of(alloc, &strata)?;
     let parameters = parameters_of(alloc, &strata)?;
-    let ok = link_ok_in(
-        &mut area,
-        n,
-        a,
-        b,
-        &masks,
-        parameters.as_flattened(),
-        nv,
-        UNIT_BOX,
-    );
-    Ok(Some(ok == (words.answer::<u32>()? == 1)))
+    let parameters = Points::new(parameters.as_flattened(), nv);
+    let ok = Strata::new(&masks, parameters, UNIT_BOX).link_ok_in(&mut area, n, a, b);
+    Ok(Some(ok == words.answer::<bool>()?))
 }

@@ -1,6 +1,6 @@
 // A line of data/units.txt about the projection: the box, the number of fields and their words, the number of active ones and which,
 // origin and candidate, = and 0, or 1 and the point.
-use crate::words::{ReadError, Words, same_point};
+use crate::words::{ReadError, Same, Words};
 use geometry::bounds::Bounds;
 use geometry::field::Field;
 use geometry::point::Point;
@@ -26,9 +26,5 @@ pub(crate) fn project_agrees(alloc: Global, words: &mut Words) -> Result<bool, R
     let origin: Point = words.read()?;
     let candidate: Point = words.read()?;
     let found = project_candidate(bounds, origin, active, count, candidate);
-    let number = words.answer::<u32>()?;
-    match found {
-        Some(p) => Ok(number == 1 && same_point(p, words.read()?)),
-        None => Ok(number == 0),
-    }
+    Ok(found.same(&words.answer()?))
 }

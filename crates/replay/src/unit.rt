@@ -2,7 +2,7 @@
 use crate::link::link_agrees;
 use crate::project::project_agrees;
 use crate::surface::{boundary_agrees, nonmanifold_agrees};
-use crate::words::{Pattern, ReadError, Words, same, same_point};
+use crate::words::{Pattern, ReadError, Same, Words};
 use geometry::bounds::{Bounds, Options, Span, cap, spacing};
 use geometry::field::{Field, gradient, value};
 use geometry::point::{Point, determinant};
@@ -88,8 +88,8 @@ impl Unit {
     // Whether the function gives the answer of the line's words behind its name; nothing where the line is not replayed.
     pub fn agrees(self, alloc: Global, words: &mut Words) -> Result<Option<bool>, ReadError> {
         Ok(Some(match self {
-            Unit::Root => same(root(words.read()?), words.answer()?),
-            Unit::Norm => same(words.read::<Point>()?.norm(), words.answer()?),
+            Unit::Root => root(words.read()?).same(&words.answer()?),
+            Unit::Norm => words.read::<Point>()?.norm().same(&words.answer()?),
             Unit::Determinant => element_agrees(words, determinant)?,
             Unit::Edges => element_agrees(words, squared_edges)?,
             Unit::Score => element_agrees(words, score)?,
@@ -101,11 +101,11 @@ impl Unit {
             }
             Unit::Value => {
                 let field: Field = words.read()?;
-                same(value(field, words.read()?), words.answer()?)
+                value(field, words.read()?).same(&words.answer()?)
             }
             Unit::Gradient => {
                 let field: Field = words.read()?;
-                same_point(gradient(field, words.read()?), words.answer()?)
+                gradient(field, words.read()?).same(&words.answer()?)
             }
             Unit::Boundary => boundary_agrees(alloc, words)?,
             Unit::Nonmanifold => nonmanifold_agrees(alloc, words)?,
@@ -123,7 +123,7 @@ fn element_agrees<F: Fn(Point, Point, Point, Point) -> f64>(
     requires { F.IsAlwaysCallable f }
 {
     let x = f(words.read()?, words.read()?, words.read()?, words.read()?);
-    Ok(same(x, words.answer()?))
+    Ok(x.same(&words.answer()?))
 }
 
 fn spacing_agrees(words: &mut Words) -> Result<bool, ReadError> {
@@ -133,16 +133,13 @@ fn spacing_agrees(words: &mut Words) -> Result<bool, ReadError> {
         periodic: 0,
         passes: 0,
     });
-    Ok(same(h, words.answer()?))
+    Ok(h.same(&words.answer()?))
 }
 
 fn rank_agrees(words: &mut Words) -> Result<bool, ReadError> {
     let value = words.read()?;
-    let span = Span {
-        lo: words.read()?,
-        hi: words.read()?,
-    };
-    let periodic = words.parse::<u32>()? == 1;
+    let span: Span = words.read()?;
+    let periodic = words.read()?;
     let rank = span.rank_value(span.canonical_value(value, periodic));
     Ok(rank == words.answer()?)
 }

@@ -1,8 +1,8 @@
 // A text read word by word: numbers, floats by their patterns, and what is made of them.
 ghost use Rattle.std.specs.Prelude.{ℕ, ◌^◌, ◌<◌, IfOk};
 
-use geometry::bounds::{Bounds, Cells};
-use geometry::field::Field;
+use geometry::bounds::{Bounds, Cells, Span};
+use geometry::field::{Field, Kind, UnknownKind};
 use geometry::point::Point;
 use geometry::word::from_words;
 use mesh::intake::Sizes;
@@ -47,6 +47,12 @@ impl<T: Drop> From<AllocFailed<T>> for ReadError {
 
 impl From<ParseIntError> for ReadError {
     fn from(_e: ParseIntError) -> ReadError {
+        ReadError::Malformed
+    }
+}
+
+impl From<UnknownKind> for ReadError {
+    fn from(_e: UnknownKind) -> ReadError {
         ReadError::Malformed
     }
 }
@@ -138,6 +144,7 @@ impl<'a> Words<'a> {
     }
 }
 
+// Kept by hand: no plainer; one impl for every `FromStr` would take f64 too, which is a pattern here.
 impl FromWords for u32 {
     fn from_words(words: &mut Words) -> Result<u32, ReadError> {
         words.parse()
@@ -156,6 +163,28 @@ impl FromWords for usize {
     }
 }
 
+// 0, or 1 for what is so.
+impl FromWords for bool {
+    fn from_words(words: &mut Words) -> Result<bool, ReadError> {
+        match words.parse::<u32>()? {
+            0 => Ok(false),
+            1 => Ok(true),
+            _ => Err(ReadError::Malformed),
+        }
+    }
+}
+
+// 0, or 1 and what there is.
+impl<T: FromWords> FromWords for Option<T> {
+    fn from_words(words: &mut Words) -> Result<Option<T>, ReadError> {
+        Ok(if words.read()? {
+            Some(words.read()?)
+        } else {
+            None
+        })
+    }
+}
+
 // A pattern of 64 bits, in hexadecimal digits.
 #[derive(Clone, Copy, Debug, PartialEq, Eq)]
 pub(crate) struct Pattern(pub u64);
@@ -168,6 +197,7 @@ impl FromWords for Pattern {
 }
 
 // A mask of 32 bits, in hexadecimal digits.
+// Kept by hand: no plainer; `from_str_radix` is a function of each type of numbers, so that one type for both would need a trait with two impls.
 #[derive(Clone, Copy, Debug, PartialEq, Eq)]
 pub(crate) struct Mask(pub u32);
 
@@ -200,28 +230,31 @@ impl FromWords for Point {
     }
 }
 
-// Both ends in x, in y and in z.
-impl FromWords for Bounds {
-    fn from_words(words: &mut Words) -> Result<Bounds, ReadError> {
-        let [x, y, z]: [[f64; 2]; 3] = [words.pair()?, words.pair()?, words.pair()?];
-        Ok(Bounds {
-            lo: Point {
-                x: x[0],
-                y: y[0],
-                z: z[0],
-            },
-            hi: Point {
-                x: x[1],
-                y: y[1],
-                z: z[1],
-            },
+impl FromWords for Span {
+    fn from_words(words: &mut Words) -> Result<Span, ReadError> {
+        Ok(Span {
+            lo: words.read()?,
+            hi: words.read()?,
         })
     }
 }
 
-impl<'a> Words<'a> {
-    fn pair(&mut self) -> Result<[f64; 2], ReadError> {
-        Ok([self.read()?, self.read()?])
+// Both ends in x, in y and in z.
+impl FromWords for Bounds {
+    fn from_words(words: &mut Words) -> Result<Bounds, ReadError> {
+        let [x, y, z]: [Span; 3] = [words.read()?, words.read()?, words.read()?];
+        Ok(Bounds {
+            lo: Point {
+                x: x.lo,
+                y: y.lo,
+                z: z.lo,
+            },
+            hi: Point {
+                x: x.hi,
+                y: y.hi,
+                z: z.hi,
+            },
+        })
     }
 }
 
@@ -251,20 +284,44 @@ impl FromWords for Field {
         let kind: u32 = words.read()?;
         let p: Point = words.read()?;
         let d: f64 = words.read()?;
-        match kind {
-            0 => Ok(Field::Level(p.x)),
-            1 => Ok(Field::Plane(p, d)),
-            2 => Ok(Field::Ball(p, d)),
-            _ => Err(ReadError::Malformed),
-        }
+        Ok(match Kind::try_from(kind)? {
+            Kind::Level => Field::Level(p.x),
+            Kind::Plane => Field::Plane(p, d),
+            Kind::Ball => Field::Ball(p, d),
+        })
     }
 }
 
-// Whether two floats are the same answer: the two zeros are equal, and so are any two NaNs.
-pub(crate) fn same(x: f64, y: f64) -> bool {
-    x == y || x.is_nan() && y.is_nan()
+// Whether two answers are the same: the two zeros are, and so are any two NaNs.
+// Kept by hand: no plainer; `==` says that a NaN differs from itself, so no derive gives this.
+pub(crate) trait Same {
+    fn same(&self, other: &Self) -> bool;
 }
 
-pub(crate) fn same_point(p: Point, q: Point) -> bool {
-    same(p.x, q.x) && same(p.y, q.y) && same(p.z, q.z)
+impl Same for f64 {
+    fn same(&self, other: &f64) -> bool {
+        self == other || self.is_nan() && other.is_nan()
+    }
+}
+
+impl Same for Point {
+    fn same(&self, other: &Point) -> bool {
+        self.x.same(&other.x) && self.y.same(&other.y) && self.z.same(&other.z)
+    }
+}
+
+impl<T: Same> Same for Vec<T> {
+    fn same(&self, other: &Vec<T>) -> bool {
+        self.len() == other.len() && self.iter().zip(other.iter()).all(|(x, y)| x.same(y))
+    }
+}
+
+impl<T: Same> Same for Option<T> {
+    fn same(&self, other: &Option<T>) -> bool {
+        match (self, other) {
+            (Some(x), Some(y)) => x.same(y),
+            (None, None) => true,
+            _ => false,
+        }
+    }
 }

@@ -1,7 +1,6 @@
 -- Laws by subject.
 pub mod Sum
 pub mod Listed
-pub mod Records
 pub mod Blocks
 pub mod Kinds
 pub mod Spare

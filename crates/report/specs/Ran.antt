@@ -7,5 +7,5 @@ use Rattle.report.specs.Run.{Ran, Finished, Stopped}
 
 -- finished with the counts, or stopped by the number of a refusal
 abbrev pub ran_of : Result finished.Finished stopped.Stopped → Ran
-ran_of (Ok f) = Finished f.collapsed f.moved f.reconnected f.sizes
+ran_of (Ok f) = Finished f.changes.collapsed f.changes.moved f.changes.reconnected f.sizes
 ran_of (Err e) = Stopped (table_number e.refusal) e.sizes

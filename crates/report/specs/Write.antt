@@ -16,6 +16,7 @@ use Rattle.geometry.specs.Word.{low_word, high_word}
 use Rattle.mesh.specs.Words.{word_at, float_at, point_in, zero_words}
 use Rattle.report.specs.Format.{bytes_a_block, header_kind, vertex_kind, element_kind, record_room, vertices_a_block, elements_a_block, field_places, field_size, level_kind, plane_kind, ball_kind, most_vertices, most_elements}
 use Rattle.report.specs.Bytes.{listed}
+use Rattle.report.specs.declared.plot.Plot as source
 use Rattle.report.specs.Block.{Plot, vertex_blocks, element_blocks}
 
 -- ---- words
@@ -138,6 +139,20 @@ unfoldable pub file_of : Plot → List ℕ
 file_of p = bytes_of (listed (file_block p) (blocks_of p.vertices p.elements))
 
 -- ---- writing into a slice
+
+-- the plot that src/plot.rt holds in slices
+abbrev pub plot_of : source.Plot → Plot
+plot_of p = record {
+  options = p.options;
+  count = p.count;
+  fields = p.fields;
+  vertices = p.vertices;
+  elements = p.elements;
+  parameters = p.parameters.now;
+  points = p.points.now;
+  masks = p.masks.now;
+  corners = p.corners.now;
+}
 
 -- how long the lists of a plot and the slice are
 pub record Rooms : Type 0 where

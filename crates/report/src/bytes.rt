@@ -1,4 +1,5 @@
 // Bytes as words and floats. A byte past the end is 0.
+// Kept by hand: no plainer; the functions take a place in a file of any length, which may end before it, so that no chunk is cut from it.
 ghost use Rattle.std.specs.Prelude.{◌≡◌, ◌%◌, ◌^◌, ◌<◌};
 ghost use Rattle.report.specs.Format.{words_a_block};
 ghost use Rattle.report.specs.Bytes.{byte_at, word_in, float_in, point_from, sum_of};
@@ -8,10 +9,10 @@ use geometry::point::Point;
 use geometry::word::from_words;
 
 // The byte at i.
-fn byte(s: &[u8], i: usize) -> u32
-    ensures { (result ≡ byte_at s.now i) × (result < 256) }
+fn byte(s: &[u8], i: usize) -> u8
+    ensures { result ≡ byte_at s.now i }
 {
-    if i < s.len() { s[i] as u32 } else { 0 }
+    s.get(i).copied().unwrap_or(0)
 }
 
 // The word i, its lowest byte first.
@@ -19,11 +20,8 @@ pub(crate) fn word(s: &[u8], i: usize) -> u32
     requires { i < 1000000 }
     ensures { result ≡ word_in s.now i }
 {
-    let a = byte(s, 4 * i);
-    let b = byte(s, 4 * i + 1);
-    let c = byte(s, 4 * i + 2);
-    let d = byte(s, 4 * i + 3);
-    a + 256 * b + 65536 * c + 16777216 * d
+    let p = 4 * i;
+    u32::from_le_bytes([byte(s, p), byte(s, p + 1), byte(s, p + 2), byte(s, p + 3)])
 }
 
 // The f64 in the words i and i + 1.

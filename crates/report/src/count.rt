@@ -1,14 +1,15 @@
 // How many elements are bad, and how many are inside a field.
-ghost use Rattle.std.specs.Prelude.{◌≡◌, ◌<◌, ◌≤◌};
-ghost use Rattle.mesh.specs.Words.{points_of};
-ghost use Rattle.mesh.specs.Element.{tets};
+ghost use Rattle.std.specs.Prelude.{◌≡◌, ◌≤◌};
+ghost use Rattle.mesh.specs.Words.{points_in};
 ghost use Rattle.report.specs.Table.{mean, place_of, is_inside, inside_count, low_count};
+ghost use Rattle.mesh.specs.inside.Intake.{tet_at};
+ghost use Rattle.report.specs.inside.Meshes.{elements_in};
 
+use crate::counted::Mesh;
 use geometry::field::{Field, value};
 use geometry::point::Point;
 use mesh::element::Tet;
-use mesh::measure::is_bad_element;
-use mesh::vertex::{tet_at, vertex_point};
+use mesh::vertex::tet_at;
 
 // The mean of four points: per direction the sum left to right, then divided by 4.
 fn mean(a: Point, b: Point, c: Point, d: Point) -> Point
@@ -21,41 +22,44 @@ fn mean(a: Point, b: Point, c: Point, d: Point) -> Point
     }
 }
 
-// The place looked at: the mean of an element's four points, in the order of its vertices.
-fn place_of(points: &[f64], nv: usize, t: Tet) -> Point
-    ensures { result ≡ place_of (points_of nv points.now) t }
-{
-    let a = vertex_point(points, nv, t.a);
-    let b = vertex_point(points, nv, t.b);
-    let c = vertex_point(points, nv, t.c);
-    let d = vertex_point(points, nv, t.d);
-    mean(a, b, c, d)
-}
+impl<'a> Mesh<'a> {
+    // The element i.
+    pub fn element(self, i: usize) -> Tet
+        ensures { result ≡ tet_at self.entry.elements.now i }
+    {
+        tet_at(self.elements, i)
+    }
 
-// Whether an element is inside a field.
-fn is_inside(f: Field, points: &[f64], nv: usize, t: Tet) -> bool
-    ensures { result ≡ is_inside (points_of nv points.now) f t }
-{
-    let p = place_of(points, nv, t);
-    value(f, p) <= 0.0
-}
+    // The place looked at: the mean of an element's four points, in the order of its vertices.
+    fn place_of(self, t: Tet) -> Point
+        ensures { result ≡ place_of (points_in self.entry.points) t }
+    {
+        let p = self.points;
+        mean(p.at(t.a), p.at(t.b), p.at(t.c), p.at(t.d))
+    }
 
-// How many of n elements are inside a field.
-pub(crate) fn inside_count(f: Field, points: &[f64], nv: usize, elements: &[u32], n: usize) -> usize
-    requires { n < 1000000 }
-    ensures { (result ≡ inside_count (points_of nv points.now) (tets n elements.now) f) × (result ≤ n) }
-{
-    (0..n)
-        .filter(|&i| is_inside(f, points, nv, tet_at(elements, i)))
-        .count()
-}
+    // Whether an element is inside a field.
+    fn is_inside(self, f: Field, t: Tet) -> bool
+        ensures { result ≡ is_inside (points_in self.entry.points) f t }
+    {
+        value(f, self.place_of(t)) <= 0.0
+    }
 
-// How many of n elements are bad.
-pub(crate) fn low_count(points: &[f64], nv: usize, elements: &[u32], n: usize) -> usize
-    requires { n < 1000000 }
-    ensures { (result ≡ low_count (points_of nv points.now) (tets n elements.now)) × (result ≤ n) }
-{
-    (0..n)
-        .filter(|&i| is_bad_element(points, nv, tet_at(elements, i)))
-        .count()
+    // How many elements are inside a field.
+    pub fn inside_count(self, f: Field) -> usize
+        ensures { (result ≡ inside_count (points_in self.entry.points) (elements_in self.entry) f) × (result ≤ self.entry.count) }
+    {
+        (0..self.count)
+            .filter(|&i| self.is_inside(f, self.element(i)))
+            .count()
+    }
+
+    // How many elements are bad.
+    pub fn low_count(self) -> usize
+        ensures { (result ≡ low_count (points_in self.entry.points) (elements_in self.entry)) × (result ≤ self.entry.count) }
+    {
+        (0..self.count)
+            .filter(|&i| self.points.is_bad(self.element(i)))
+            .count()
+    }
 }

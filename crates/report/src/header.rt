@@ -1,5 +1,6 @@
 // The header's record: the box and what stands beside it, and the fields.
 ghost use Rattle.std.specs.Prelude.{◌≡◌, ◌<◌};
+ghost use Rattle.geometry.specs.Field.{number_of as kind_number};
 ghost use Rattle.report.specs.Format.{field_places};
 ghost use Rattle.report.specs.Error.{number_of};
 ghost use Rattle.report.specs.Block.{header_options, field_from, field_at, header_fields, kinds_number, reading_number};
@@ -14,6 +15,7 @@ use crate::format::{
 use geometry::bounds::{Bounds, Cells, Options};
 use geometry::field::{Field, Kind};
 use geometry::point::Point;
+use std::array::from_fn;
 
 // Lo and hi per direction: x lo, x hi, y, z.
 fn bounds(s: &[u8]) -> Bounds
@@ -49,29 +51,27 @@ pub fn options(s: &[u8]) -> Options
     }
 }
 
-// The field of a kind, its numbers from the word i on. A file with an unknown kind is not read.
-fn field_from(s: &[u8], kind: u32, i: usize) -> Field
+// The field of a kind, its numbers from the word i on.
+fn field_from(s: &[u8], kind: Kind, i: usize) -> Field
     requires { i < 1000 }
-    ensures { result ≡ field_from s.now kind i }
+    ensures { result ≡ field_from s.now (kind_number kind) i }
 {
-    match Kind::try_from(kind).unwrap_or(Kind::Ball) {
+    match kind {
         Kind::Level => Field::Level(float(s, i)),
         Kind::Plane => Field::Plane(point(s, i), float(s, i + 6)),
         Kind::Ball => Field::Ball(point(s, i), float(s, i + 6)),
     }
 }
 
-// The field j, and a level 0 for an unused place.
+// The field j, and a level 0 for an unused place. A file with an unknown kind is not read; here it counts as a ball's.
 fn field_at(s: &[u8], j: usize) -> Field
     requires { j < field_places }
     ensures { result ≡ field_at s.now j }
 {
     if j < word(s, COUNT_PLACE) as usize {
-        return field_from(
-            s,
-            word(s, FIRST_FIELD + FIELD_SIZE * j),
-            FIRST_FIELD + 1 + FIELD_SIZE * j,
-        );
+        let p = FIRST_FIELD + FIELD_SIZE * j;
+        let kind = Kind::try_from(word(s, p)).unwrap_or(Kind::Ball);
+        return field_from(s, kind, p + 1);
     }
     Field::Level(0.0)
 }
@@ -80,16 +80,7 @@ fn field_at(s: &[u8], j: usize) -> Field
 pub fn fields(s: &[u8]) -> [Field; 8]
     ensures { result ≡ header_fields s.now }
 {
-    [
-        field_at(s, 0),
-        field_at(s, 1),
-        field_at(s, 2),
-        field_at(s, 3),
-        field_at(s, 4),
-        field_at(s, 5),
-        field_at(s, 6),
-        field_at(s, 7),
-    ]
+    from_fn(|j| field_at(s, j))
 }
 
 // Tests that there are no more fields than places, and that each kind is known.

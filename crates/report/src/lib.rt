@@ -2,14 +2,18 @@
 #![tactic(auto)]
 
 mod block;
+mod buffers;
 mod bytes;
 mod count;
+mod counted;
 mod error;
 mod format;
 mod header;
+pub mod plot;
 mod print;
 mod records;
 pub mod report;
+mod rows;
 mod run;
 mod spare;
 mod table;

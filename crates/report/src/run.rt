@@ -1,10 +1,12 @@
 // The three passes on one plot, one after the other, each on what the one before left.
 ghost use Rattle.std.specs.Prelude.{◌≡◌, length};
 ghost use Rattle.mesh.specs.Words.{zero_words, zero_floats};
-ghost use Rattle.repair.specs.Step.{State, held};
+ghost use Rattle.repair.specs.Step.{State};
 ghost use Rattle.report.specs.Ran.{ran_of};
 ghost use Rattle.report.specs.Run.{Ran, setting_for, run_flip, run_smooth, run_passes, sizes_left};
+ghost use Rattle.report.specs.inside.Buffers.{state_in};
 
+use crate::buffers::Buffers;
 use geometry::field::Field;
 use mesh::intake::{Settings, Sizes};
 use mesh::refusal::Refusal;
@@ -12,12 +14,18 @@ use repair::flip::flip;
 use repair::improve::improve;
 use repair::smooth::smooth;
 
-// The counts of the three passes, and the sizes that the mesh has after them.
+// The counts of the three passes.
 #[derive(Clone, Copy)]
-pub(crate) struct Finished {
+pub(crate) struct Changes {
     pub collapsed: usize,
     pub moved: usize,
     pub reconnected: usize,
+}
+
+// The counts of a run, and the sizes that the mesh has after it.
+#[derive(Clone, Copy)]
+pub(crate) struct Finished {
+    pub changes: Changes,
     pub sizes: Sizes,
 }
 
@@ -28,116 +36,107 @@ pub(crate) struct Stopped {
     pub sizes: Sizes,
 }
 
-// Runs `flip`, where the others gave these counts.
-fn run_flip(
-    collapsed: usize,
-    moved: usize,
-    s: Settings,
-    fields: [Field; 8],
-    parameters: &[f64],
-    points: &[f64],
-    masks: &[u32],
-    elements: &mut [u32],
-    surface: &mut [u32],
-    work: &mut [u32],
-    floats: &mut [f64],
-) -> Result<Finished, Stopped>
-    ensures fact { ◌≡◌ {A = Ran × State} (ran_of result, held (sizes_left (ran_of result)) parameters.now points.now masks.now elements.new surface.new)
-        (run_flip (setting_for s fields work.old floats.old) collapsed moved
-        (held s.sizes parameters.now points.now masks.now elements.old surface.old)) }
-    ensures work_after { work.new ≡ zero_words (length work.old) }
-    ensures floats_after { floats.new ≡ zero_floats (length floats.old) }
-{
-    let sizes = s.sizes;
-    let found = flip(
-        s, fields, parameters, points, masks, elements, surface, work, floats,
-    );
-    match found {
-        Ok(made) => Ok(Finished {
-            collapsed,
-            moved,
-            reconnected: made.count,
-            sizes: made.sizes,
-        }),
-        Err(refusal) => Err(Stopped { refusal, sizes }),
-    }
-}
-
-// Runs `smooth` and then `flip`.
-fn run_smooth(
-    collapsed: usize,
-    s: Settings,
-    fields: [Field; 8],
-    parameters: &mut [f64],
-    points: &mut [f64],
-    masks: &[u32],
-    elements: &mut [u32],
-    surface: &mut [u32],
-    work: &mut [u32],
-    floats: &mut [f64],
-) -> Result<Finished, Stopped>
-    ensures fact { ◌≡◌ {A = Ran × State} (ran_of result, held (sizes_left (ran_of result)) parameters.new points.new masks.now elements.new surface.new)
-        (run_smooth (setting_for s fields work.old floats.old) collapsed
-        (held s.sizes parameters.old points.old masks.now elements.old surface.old)) }
-    ensures work_after { work.new ≡ zero_words (length work.old) }
-    ensures floats_after { floats.new ≡ zero_floats (length floats.old) }
-{
-    let sizes = s.sizes;
-    let found = smooth(
-        s,
-        fields,
-        false,
-        &[],
-        parameters,
-        points,
-        masks,
-        elements,
-        surface,
-        work,
-        floats,
-    );
-    match found {
-        Ok(made) => run_flip(
-            collapsed, made.count, s, fields, parameters, points, masks, elements, surface, work,
-            floats,
-        ),
-        Err(refusal) => Err(Stopped { refusal, sizes }),
-    }
-}
-
-// Runs `improve`, `smooth` and `flip` once with no regions; the first that refuses ends the run. The work holds zeros after.
-pub(crate) fn run_passes(
-    s: Settings,
-    fields: [Field; 8],
-    parameters: &mut [f64],
-    points: &mut [f64],
-    masks: &mut [u32],
-    elements: &mut [u32],
-    surface: &mut [u32],
-    work: &mut [u32],
-    floats: &mut [f64],
-) -> Result<Finished, Stopped>
-    ensures fact { ◌≡◌ {A = Ran × State} (ran_of result, held (sizes_left (ran_of result)) parameters.new points.new masks.new elements.new surface.new)
-        (run_passes (setting_for s fields work.old floats.old)
-        (held s.sizes parameters.old points.old masks.old elements.old surface.old)) }
-    ensures work_after { work.new ≡ zero_words (length work.old) }
-    ensures floats_after { floats.new ≡ zero_floats (length floats.old) }
-{
-    let sizes = s.sizes;
-    let found = improve(
-        s, fields, parameters, points, masks, elements, surface, work, floats,
-    );
-    match found {
-        Ok(made) => {
-            let after = Settings {
-                sizes: made.sizes,
-                ..s
-            };
-            run_smooth(
-                made.count, after, fields, parameters, points, masks, elements, surface, work,
-                floats,
-            )
+impl Buffers {
+    // Runs `flip`, where the others gave these counts.
+    fn run_flip(
+        &mut self,
+        s: Settings,
+        fields: [Field; 8],
+        collapsed: usize,
+        moved: usize,
+    ) -> Result<Finished, Stopped>
+        ensures fact { ◌≡◌ {A = Ran × State} (ran_of result, state_in self.new (sizes_left (ran_of result)))
+            (run_flip (setting_for s fields self.old.work self.old.floats) collapsed moved (state_in self.old s.sizes)) }
+        ensures work_after { self.new.work ≡ zero_words (length self.old.work) }
+        ensures floats_after { self.new.floats ≡ zero_floats (length self.old.floats) }
+    {
+        let sizes = s.sizes;
+        let found = flip(
+            s,
+            fields,
+            &self.parameters,
+            &self.points,
+            &self.masks,
+            &mut self.elements,
+            &mut self.surface,
+            &mut self.work,
+            &mut self.floats,
+        );
+        match found {
+            Ok(made) => {
+                let changes = Changes {
+                    collapsed,
+                    moved,
+                    reconnected: made.count,
+                };
+                Ok(Finished {
+                    changes,
+                    sizes: made.sizes,
+                })
+            }
+            Err(refusal) => Err(Stopped { refusal, sizes }),
         }
-        Err(refusal) => Err(Stopped { refusal, sizes }),
+    }
+
+    // Runs `smooth` and then `flip`.
+    fn run_smooth(
+        &mut self,
+        s: Settings,
+        fields: [Field; 8],
+        collapsed: usize,
+    ) -> Result<Finished, Stopped>
+        ensures fact { ◌≡◌ {A = Ran × State} (ran_of result, state_in self.new (sizes_left (ran_of result)))
+            (run_smooth (setting_for s fields self.old.work self.old.floats) collapsed (state_in self.old s.sizes)) }
+        ensures work_after { self.new.work ≡ zero_words (length self.old.work) }
+        ensures floats_after { self.new.floats ≡ zero_floats (length self.old.floats) }
+    {
+        let sizes = s.sizes;
+        let found = smooth(
+            s,
+            fields,
+            None,
+            &mut self.parameters,
+            &mut self.points,
+            &self.masks,
+            &self.elements,
+            &self.surface,
+            &mut self.work,
+            &mut self.floats,
+        );
+        match found {
+            Ok(made) => self.run_flip(s, fields, collapsed, made.count),
+            Err(refusal) => Err(Stopped { refusal, sizes }),
+        }
+    }
+
+    // Runs `improve`, `smooth` and `flip` once with no regions; the first that refuses ends the run. The work holds zeros after.
+    pub fn run_passes(&mut self, s: Settings, fields: [Field; 8]) -> Result<Finished, Stopped>
+        ensures fact { ◌≡◌ {A = Ran × State} (ran_of result, state_in self.new (sizes_left (ran_of result)))
+            (run_passes (setting_for s fields self.old.work self.old.floats) (state_in self.old s.sizes)) }
+        ensures work_after { self.new.work ≡ zero_words (length self.old.work) }
+        ensures floats_after { self.new.floats ≡ zero_floats (length self.old.floats) }
+    {
+        let sizes = s.sizes;
+        let found = improve(
+            s,
+            fields,
+            &mut self.parameters,
+            &mut self.points,
+            &mut self.masks,
+            &mut self.elements,
+            &mut self.surface,
+            &mut self.work,
+            &mut self.floats,
+        );
+        match found {
+            Ok(made) => {
+                let after = Settings {
+                    sizes: made.sizes,
+                    ..s
+                };
+                self.run_smooth(after, fields, made.count)
+            }
+            Err(refusal) => Err(Stopped { refusal, sizes }),
+        }
     }
 }

@@ -5,6 +5,7 @@ ghost use Rattle.mesh.specs.Tests.{every};
 ghost use Rattle.report.specs.Format.{block_kind_number, header_size, record_size, field_places, field_size};
 ghost use Rattle.report.specs.Block.{zeros_from, rest_zero, used_in, place_zero, spare_zero};
 
+use crate::block::Block;
 use crate::bytes::word;
 use crate::format::{
     BlockKind, COUNT_PLACE, ELEMENT_SIZE, FIELD_PLACES, FIELD_SIZE, FIRST_FIELD, FIRST_RECORD,
@@ -29,16 +30,6 @@ fn record_size(kind: BlockKind) -> usize
         BlockKind::Vertices => VERTEX_SIZE,
         BlockKind::Elements => ELEMENT_SIZE,
     }
-}
-
-// Whether the words of the block k behind so many records of this kind are zero.
-fn rest_zero(s: &[u8], k: usize, kind: BlockKind, count: usize) -> bool
-    requires { (k < 1000) × (count < 1000) }
-    ensures { result ≡ rest_zero s.now k (block_kind_number kind) count }
-{
-    let first = WORDS_A_BLOCK * k + FIRST_RECORD;
-    let used = record_size(kind) * count;
-    zeros_to(s, first + used, first + RECORD_ROOM)
 }
 
 // How many words of the place j its field uses: none from the number of fields on.
@@ -71,15 +62,27 @@ fn places_zero(s: &[u8]) -> bool
     (0..FIELD_PLACES).all(|j| place_zero(s, j))
 }
 
-// Whether the spare words of the block k, where this kind and count are expected, are zero.
-#[tactic(auto, unfolding(crate::specs::Block::spare_zero))]
-pub(crate) fn spare_zero(s: &[u8], k: usize, kind: BlockKind, count: usize) -> bool
-    requires { (k < 1000) × (count < 1000) }
-    ensures { result ≡ spare_zero s.now k (block_kind_number kind) count }
-{
-    rest_zero(s, k, kind, count)
-        && match kind {
-            BlockKind::Header => places_zero(s),
-            BlockKind::Vertices | BlockKind::Elements => true,
-        }
+impl<'a> Block<'a> {
+    // Whether its words behind so many records of this kind are zero.
+    fn rest_zero(self, kind: BlockKind, count: usize) -> bool
+        requires { count < 1000 }
+        ensures { result ≡ rest_zero self.entry.bytes.now self.entry.k (block_kind_number kind) count }
+    {
+        let first = WORDS_A_BLOCK * self.k + FIRST_RECORD;
+        let used = record_size(kind) * count;
+        zeros_to(self.bytes, first + used, first + RECORD_ROOM)
+    }
+
+    // Whether its spare words, where this kind and count are expected, are zero.
+    #[tactic(auto, unfolding(crate::specs::Block::spare_zero))]
+    pub fn spare_zero(self, kind: BlockKind, count: usize) -> bool
+        requires { count < 1000 }
+        ensures { result ≡ spare_zero self.entry.bytes.now self.entry.k (block_kind_number kind) count }
+    {
+        self.rest_zero(kind, count)
+            && match kind {
+                BlockKind::Header => places_zero(self.bytes),
+                BlockKind::Vertices | BlockKind::Elements => true,
+            }
+    }
 }

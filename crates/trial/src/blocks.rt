@@ -18,8 +18,8 @@ use geometry::point::Point;
 use mesh::words::{high_half, low_half};
 use std::alloc::{AllocError, Global};
 use std::collections::BTreeMap;
-use std::io;
 use std::ops::Range;
+use std::{fmt, io};
 
 // The words of the example that are given each value below 40: the first five, cells, periodic bits, passes, number of fields, the field's kind, and the
 // first three of the other blocks.
@@ -128,7 +128,17 @@ fn file_of(alloc: Global, mesh: &Mesh) -> Result<BlockFile, AllocError> {
 }
 
 // How often each number came, 0 for a table.
-type Counts = BTreeMap<u32, u32>;
+#[derive(Drop)]
+struct Counts(BTreeMap<u32, u32>);
+
+impl fmt::Display for Counts {
+    fn fmt<W: fmt::Write>(&self, f: &mut fmt::Formatter<W>) -> fmt::Result {
+        for (number, times) in self.0.iter() {
+            write!(f, " {number} {times}")?;
+        }
+        Ok(())
+    }
+}
 
 // Counts the answers to the file with each of these changes.
 fn count_answers<F: Fn(&mut BlockFile, u32)>(
@@ -147,14 +157,7 @@ fn count_answers<F: Fn(&mut BlockFile, u32)>(
         let times = counts.entry(number)?.or_insert(0u32);
         *times = times.saturating_add(1);
     }
-    Ok(counts)
-}
-
-fn print_counts(rt: &impl Print, counts: &Counts) -> io::Result<()> {
-    for (number, times) in counts.iter() {
-        print!(rt; " {number} {times}")?;
-    }
-    println!(rt)
+    Ok(Counts(counts))
 }
 
 fn meshes(rt: &impl Print, alloc: Global) -> io::Result<()> {
@@ -171,8 +174,7 @@ fn changes(rt: &impl Print, alloc: Global, file: &BlockFile, bit: u8) -> io::Res
     let counts = count_answers(alloc, file, 0..1536, |f, i| {
         f.change_byte(i as usize, bit)
     })?;
-    print!(rt; "block changed {bit}")?;
-    print_counts(rt, &counts)
+    println!(rt; "block changed {bit}{counts}")
 }
 
 // The file with a second copy behind it, cut at each of these lengths. `plot` reads 2,561 bytes.
@@ -187,16 +189,14 @@ fn lengths(
     file.double()?;
     let (start, end) = (cuts.start, cuts.end);
     let counts = count_answers(alloc, &file, cuts, |f, n| f.cut(n as usize))?;
-    print!(rt; "block lengths {number} {start} {end}")?;
-    print_counts(rt, &counts)
+    println!(rt; "block lengths {number} {start} {end}{counts}")
 }
 
 // Each of the words with each value below 40, its block sealed anew.
 fn values(rt: &impl Print, alloc: Global, file: &BlockFile) -> io::Result<()> {
     for i in WORDS {
         let counts = count_answers(alloc, file, 0..40, |f, v| f.set_words(i, &[v]))?;
-        print!(rt; "block values {i}")?;
-        print_counts(rt, &counts)?;
+        println!(rt; "block values {i}{counts}")?;
     }
     Ok(())
 }
@@ -210,8 +210,7 @@ fn words(rt: &impl Print, alloc: Global, file: &BlockFile, bit: u32) -> io::Resu
         let counts = count_answers(alloc, file, 128 * k + 3..128 * k + 127, |f, i| {
             f.change_word(i as usize, mask)
         })?;
-        print!(rt; "block words {k} {bit}")?;
-        print_counts(rt, &counts)?;
+        println!(rt; "block words {k} {bit}{counts}")?;
     }
     Ok(())
 }
@@ -259,7 +258,7 @@ pub(crate) fn run(rt: &impl Print, alloc: Global) -> io::Result<()> {
     changes(rt, alloc, &file, 128)?;
     lengths(rt, alloc, 0, &example, 0..1536)?;
     lengths(rt, alloc, 0, &example, 1536..2562)?;
-    lengths(rt, alloc, 1, &meshes::empty(), 0..1025)?;
+    lengths(rt, alloc, 1, &meshes::on_side(0, 0), 0..1025)?;
     values(rt, alloc, &file)?;
     words(rt, alloc, &file, 0)?;
     words(rt, alloc, &file, 31)?;

@@ -1,25 +1,16 @@
 // The value, the gradient and its magnitude of each kind of field. A row has the kind, and the
 // patterns of the field's four numbers and of a point.
 use crate::patterns::{float_of, point_of};
-use geometry::field::{Field, gradient, magnitude, value};
+use geometry::field::{Field, Kind, gradient, magnitude, value};
 use geometry::word::pattern;
 use std::io;
 
-#[derive(Clone, Copy)]
-enum Kind {
-    Level,
-    Plane,
-    Ball,
-}
-
-impl Kind {
-    // The field of this kind with four numbers, of which a level uses the first.
-    fn field(self, [a, b, c, d]: [u64; 4]) -> Field {
-        match self {
-            Kind::Level => Field::Level(float_of(a)),
-            Kind::Plane => Field::Plane(point_of([a, b, c]), float_of(d)),
-            Kind::Ball => Field::Ball(point_of([a, b, c]), float_of(d)),
-        }
+// The field of a kind with four numbers, of which a level uses the first.
+fn field_of(kind: Kind, [a, b, c, d]: [u64; 4]) -> Field {
+    match kind {
+        Kind::Level => Field::Level(float_of(a)),
+        Kind::Plane => Field::Plane(point_of([a, b, c]), float_of(d)),
+        Kind::Ball => Field::Ball(point_of([a, b, c]), float_of(d)),
     }
 }
 
@@ -228,7 +219,7 @@ const FIELDS: [(Kind, [u64; 4], [u64; 3]); 14] = [
 
 pub(crate) fn run(rt: &impl Print) -> io::Result<()> {
     for (row, (k, numbers, point)) in FIELDS.iter().enumerate() {
-        let f = k.field(*numbers);
+        let f = field_of(*k, *numbers);
         let p = point_of(*point);
         let g = gradient(f, p);
         print!(rt; "field {row} {}", u32::from(f.kind()))?;

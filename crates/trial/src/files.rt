@@ -27,18 +27,18 @@ impl BlockFile {
     // The file of at most 2,561 bytes that `write_file` writes for at most seven vertices.
     pub fn of(alloc: Global, plot: Plot) -> Result<BlockFile, AllocError> {
         let mut bytes = vec![in alloc; 0u8; 2561]?;
-        let n = write_file(
-            plot.options,
-            plot.count,
-            plot.fields,
-            plot.points.len(),
-            plot.elements.len(),
-            plot.parameters.as_flattened(),
-            plot.points.as_flattened(),
-            &[0u32; 7],
-            plot.elements.as_flattened(),
-            &mut bytes,
-        );
+        let file = report::plot::Plot {
+            options: plot.options,
+            count: plot.count,
+            fields: plot.fields,
+            vertices: plot.points.len(),
+            elements: plot.elements.len(),
+            parameters: plot.parameters.as_flattened(),
+            points: plot.points.as_flattened(),
+            masks: &[0u32; 7],
+            corners: plot.elements.as_flattened(),
+        };
+        let n = write_file(&file, &mut bytes);
         bytes.truncate(n);
         Ok(BlockFile { bytes })
     }
@@ -114,6 +114,7 @@ impl BlockFile {
         Ok(text)
     }
 
+    // Kept by hand: no plainer; `report` gives bytes, and a `Display` writes a `str`, which needs a test of them that may fail.
     pub fn print_text(&self, rt: &impl Print, alloc: Global) -> io::Result<()> {
         let text = self.text(alloc)?;
         rt.write_all(&text)

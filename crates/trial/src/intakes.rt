@@ -185,33 +185,55 @@ impl Trial {
             &mut work,
             &mut floats,
         );
-        let number = match found {
-            Ok(()) => 0,
-            Err(refusal) => u32::from(refusal),
-        };
+        let number = found.err().map_or(0, u32::from);
         let cleared = work.iter().all(|w| *w == 0) && floats.iter().all(|x| *x == 0.0);
         Ok(if cleared { number } else { 99 })
     }
 }
 
-// One of the buffers a place short: 0 none, then in the order of the lengths; 8 a triple too many.
+// The lengths with one of them a place short: first none, then in their order.
+fn short_lengths(exact: Lengths) -> [Lengths; 8] {
+    [
+        exact,
+        Lengths {
+            parameters: 20,
+            ..exact
+        },
+        Lengths {
+            points: 20,
+            ..exact
+        },
+        Lengths { masks: 6, ..exact },
+        Lengths {
+            elements: 15,
+            ..exact
+        },
+        Lengths {
+            surface: 23,
+            ..exact
+        },
+        Lengths {
+            words: 1759,
+            ..exact
+        },
+        Lengths {
+            floats: 111,
+            ..exact
+        },
+    ]
+}
+
+// Each of the buffers a place short, and 8: a triple too many.
 fn short(rt: &impl Print, alloc: Global) -> io::Result<()> {
-    for k in 0..9 {
-        let mut t = Trial::exact(7, 2);
-        match k {
-            1 => t.lengths.parameters = 20,
-            2 => t.lengths.points = 20,
-            3 => t.lengths.masks = 6,
-            4 => t.lengths.elements = 15,
-            5 => t.lengths.surface = 23,
-            6 => t.lengths.words = 1759,
-            7 => t.lengths.floats = 111,
-            8 => t.sizes.triples = 9,
-            _ => {}
-        }
+    let mut t = Trial::exact(7, 2);
+    let exact = t.lengths;
+    for (k, lengths) in short_lengths(exact).into_iter().enumerate() {
+        t.lengths = lengths;
         println!(rt; "intake short {k} {}", t.number(alloc)?)?;
     }
-    Ok(())
+    t.lengths = exact;
+    t.sizes.triples = 9;
+    println!(rt; "intake short 8 {}", t.number(alloc)?)
 }
 
 fn vertices(rt: &impl Print, alloc: Global) -> io::Result<()> {

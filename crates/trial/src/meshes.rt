@@ -1,4 +1,5 @@
 // The meshes of the trials.
+ghost use Rattle.std.specs.Prelude.{◌≤◌};
 
 // A mesh, and the lower end of its box in every direction.
 #[derive(Clone, Copy)]
@@ -32,29 +33,27 @@ static TOUCHING: [[f64; 3]; 7] = [
     [0.0, 0.0, -1.0],
 ];
 
-// The first element of the corner.
-pub(crate) fn corner() -> Mesh {
+// So many of the vertices on one side, and of the three elements there.
+pub(crate) fn on_side(vertices: usize, elements: usize) -> Mesh
+    requires { (vertices ≤ 6) × (elements ≤ 3) }
+{
     Mesh {
-        points: &SIDE[..4],
-        elements: &THREE[..1],
+        points: &SIDE[..vertices],
+        elements: &THREE[..elements],
         low: 0.0,
     }
 }
 
-// No vertices.
-pub(crate) fn empty() -> Mesh {
-    Mesh {
-        points: &SIDE[..0],
-        elements: &THREE[..0],
-        low: 0.0,
-    }
+// The first element of the corner.
+pub(crate) fn corner() -> Mesh {
+    on_side(4, 1)
 }
 
 // The meshes that `blocks` lists, in their order.
 pub(crate) fn all() -> [Mesh; 7] {
     [
         corner(),
-        empty(),
+        on_side(0, 0),
         Mesh {
             elements: &[[0, 1, 3, 2]],
             ..corner()
@@ -63,16 +62,8 @@ pub(crate) fn all() -> [Mesh; 7] {
             elements: &[[0, 1, 2, 3], [1, 2, 0, 3]],
             ..corner()
         },
-        Mesh {
-            points: &SIDE,
-            elements: &THREE,
-            low: 0.0,
-        },
-        Mesh {
-            points: &SIDE[..5],
-            elements: &THREE[..2],
-            low: 0.0,
-        },
+        on_side(6, 3),
+        on_side(5, 2),
         Mesh {
             points: &TOUCHING,
             elements: &[[0, 1, 2, 3], [0, 4, 6, 5]],

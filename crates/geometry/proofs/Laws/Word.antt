@@ -1,4 +1,3 @@
 -- What holds of an f64's bits.
-pub mod Nan
 pub mod Order
 pub mod Words

@@ -10,7 +10,6 @@ pub mod Faces
 pub mod Boundary
 pub mod Self
 pub mod Features
-pub mod Walk
 pub mod Keys
 pub mod Alone
 pub mod Whole

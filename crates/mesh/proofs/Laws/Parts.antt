@@ -65,10 +65,6 @@ copy-turn {A} s i k n p z hi hk h l =
 
 -- ---- a copy from one list to another
 
-pub within-no : (i n m : ℕ) → m < i → false ≡ inside i n m
-unfolding inside
-within-no i n m h = sym (lt-leb (i + n) m (omega arith))
-
 pub within-test : (i n m : ℕ) → i ≤ m → leb n (m - i) ≡ inside i n m
 unfolding inside
 within-test i n m h = go (leb n (m - i)) refl

@@ -1,5 +1,6 @@
 -- Runs of rows with equal keys: what holds at the head of the loop that counts one, and its end. Assumes nothing.
-use Rattle.std.proofs.Common.{◌≡◌, ℕ, zero, suc, ◌+◌, ◌-◌, ◌*◌, ◌<◌, ◌≤◌, Bool, true, false, cond, ◌&&◌, leb, List, length, take, drop, sym, refl, ap, ◌∙◌, not-suc-le-zero, zero-add, sub-one, arith, drop_of_length-le, take-take, drop-drop, le-leb}
+use Rattle.std.proofs.Common.{◌≡◌, subst, Option, None, Some, ℕ, zero, suc, ◌+◌, ◌-◌, ◌*◌, ◌<◌, ◌≤◌, Bool, true, false, cond, ◌&&◌, leb, List, length, take, drop, sym, refl, ap, ◌∙◌, not-suc-le-zero, zero-add, sub-one, arith, drop_of_length-le, take-take, drop-drop, le-leb}
+use Rattle.std.specs.Option.{MatchOption, unwrap_or}
 use mathlib.Core.Bool.{and-false}
 use native.Mathlib.Nat.{sub-zero}
 use borrow.Author.Tests.{lt-leb}
@@ -60,9 +61,26 @@ module _ {s key : List ℕ} {i left w kw p m : ℕ} (v : Counting s key i left w
   pub count-end : left ≤ m → m ≡ of_key kw key (rows w left (drop i s))
   count-end h = let q = run_none (drop p s) key w kw (left - m) (omega arith) in omega (arith, v.all)
 
+-- ---- the run as what is before the first other row
+
+module _ (s key : List ℕ) (i left w kw : ℕ) (room : i + left * w ≤ length s) (wide : kw ≤ w) where
+  up-to : (m : ℕ) → m ≤ left → ((k : ℕ) → 0 ≤ k → k < m → eq_row key (take kw (drop (i + k * w) s)) ≡ true) → Counting s key i left w kw (i + m * w) m
+  up-to zero h f = let e : i ≡ i + 0 * w = omega arith in subst (λ (p : ℕ). Counting s key i left w kw p 0) e (count-start s key i left w kw room)
+  up-to (suc m) h f =
+      let e : i + m * w + w ≡ i + (m + 1) * w = omega arith in
+      let g : m + 1 ≡ suc m = omega arith in
+      let v = count_turn (up-to m (omega arith) (λ k a b. f k a (omega arith))) (omega arith) wide (f m (omega arith) (omega arith)) in
+      subst (λ (n : ℕ). Counting s key i left w kw (i + n * w) n) g (subst (λ (p : ℕ). Counting s key i left w kw p (m + 1)) e v)
+
+  pub count-first : (r : Option ℕ) → MatchOption r ((k : ℕ) → 0 ≤ k → k < left → eq_row key (take kw (drop (i + k * w) s)) ≡ true)
+      (λ m. (0 ≤ m) × (m < left) × (eq_row key (take kw (drop (i + m * w) s)) ≡ false) × ((k : ℕ) → 0 ≤ k → k < m → eq_row key (take kw (drop (i + k * w) s)) ≡ true))
+      → unwrap_or r left ≡ of_key kw key (rows w left (drop i s))
+  count-first None h = count-end (up-to left (omega arith) h) (omega arith)
+  count-first (Some m) h = count-stop (up-to m (omega (arith, h.1)) h.3) h.1 wide h.2
+
 -- ---- the run that begins at a row
 
-run_is : (s : List ℕ) (w kw left : ℕ) → 0 < left → kw ≤ w → of_key kw (take kw s) (rows w left s) ≡ run kw (rows w left s)
+pub run_is : (s : List ℕ) (w kw left : ℕ) → 0 < left → kw ≤ w → of_key kw (take kw s) (rows w left s) ≡ run kw (rows w left s)
 unfolding rows run
 run_is s w kw zero h k = absurd (not-suc-le-zero h)
 run_is s w kw (suc l) h k = simp (take-take, k)

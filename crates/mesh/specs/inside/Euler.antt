@@ -6,7 +6,7 @@ use Rattle.std.proofs.Math.IntN.{sub_ℕ}
 use Rattle.mesh.specs.declared.element.Pair.{Pair}
 use Rattle.mesh.specs.declared.element.Tet.{Tet}
 use Rattle.mesh.specs.declared.euler.Counts.{Counts}
-use Rattle.mesh.specs.Words.{zero_words}
+use Rattle.mesh.specs.Words.{word_at, zero_words}
 use Rattle.mesh.specs.Sort.{sort, unique}
 use Rattle.mesh.specs.inside.Rows.{le_row, eq_row}
 use Rattle.mesh.specs.Element.{pair, faces_of, face_of, key_of, corners_of, vertices_of, tets}
@@ -78,6 +78,10 @@ counted_in n s =
     (record { counts = record { vertices = 0; edges = 0; triangles = 0; elements = 0 }; area = s })
 
 -- ---- rows by number, for the contracts of private functions
+
+-- the vertex j of the elements at the front of s, 4 e + k for the vertex k of the element e
+unfoldable pub vertex_row_at : List ℕ → ℕ → List ℕ
+vertex_row_at s j = word_at s j ∷ []
 
 -- the edge j of the elements at the front of s, 6 e + k for the edge k of the element e
 unfoldable pub edge_row_at : List ℕ → ℕ → List ℕ

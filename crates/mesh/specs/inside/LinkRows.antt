@@ -2,17 +2,16 @@
 -- last one repeated up to the width of a row, and behind it the mark of the simplex that it comes from: 1 with a only, 2 with b only, 3 with
 -- both, 0 with neither. A run of the same simplex fails where it has the marks 1 and 2 and not 3. proofs/Laws/LinkRows has the laws that these tests are
 -- those of `link_ok`. For contracts of private functions and for proofs; definitions only.
-use Rattle.std.specs.Prelude.{◌≡◌, ℕ, ◌*◌, ◌/◌, ◌%◌, ◌<◌, ◌≤◌, Bool, true, cond, not, ◌&&◌, ◌||◌, ◌≢◌, List, [], ◌∷◌, ◌++◌, map, length, get_or, drop, ◌==◌, nat_le, nat_lt, slice_index, slice_index_or}
+use Rattle.std.specs.Prelude.{ℕ, ◌/◌, ◌%◌, Bool, cond, not, ◌&&◌, ◌||◌, List, [], ◌∷◌, ◌++◌, map, length, get_or, ◌==◌, nat_le, nat_lt, slice_index, slice_index_or}
 use Rattle.geometry.specs.Bounds.{stratum}
 use Rattle.mesh.specs.declared.element.Pair.{Pair}
 use Rattle.mesh.specs.declared.element.Tet.{Tet}
 use Rattle.mesh.specs.declared.element.Triple.{Triple}
-use Rattle.mesh.specs.declared.link.features.Edge.{Edge}
 use Rattle.mesh.specs.Sort.{sort}
-use Rattle.mesh.specs.inside.Rows.{rows, le_row}
+use Rattle.mesh.specs.inside.Rows.{le_row}
 use Rattle.mesh.specs.Complex.{mem}
-use Rattle.mesh.specs.Tests.{every, nodup}
-use Rattle.mesh.specs.Element.{pair, triple, tets, vertices_of, corners_of, key_of}
+use Rattle.mesh.specs.Tests.{every}
+use Rattle.mesh.specs.Element.{pair, triple, vertices_of, corners_of, key_of}
 use Rattle.mesh.specs.Link.{subsets}
 use Rattle.mesh.specs.Feature.{shared}
 use Rattle.mesh.specs.inside.Group.{runs, same_first}
@@ -144,21 +143,3 @@ unfoldable pub feature_run : (ℕ → ℕ) → ℕ → ℕ → Bool → List (Li
 feature_run stratum a b ab g =
     let x = get_or (slice_index_or g 0 []) 0 0 in
     not (x == slice_index (slice_index_or g 0 []) 1) || (x == a || (x == b || vertex_by stratum a b ab x (marked 2 1 g) (marked 2 2 g) (marked 2 3 g)))
-
--- ---- within one area
-
--- m sorted rows behind the first 16 n words are those of the boundary faces about the edge of the n elements at the front
-pub record EdgeRows (a b n m : ℕ) (s : List ℕ) : Type 0 where
-  pub few : n ≤ 16384
-  pub fewer : m ≤ 12 * n
-  pub room : 88 * n ≤ length s
-  pub apart : a ≢ b
-  pub distinct : every (λ t. nodup (vertices_of t)) (tets n s) ≡ true
-  pub result : rows 3 m (drop (16 * n) s) ≡ sort le_row (rows_of_faces a b (alone_faces a b (tets n s)))
-
--- the strata of the ends of an edge, below 2 ^ 38
-pub record StrataOf (stratum : ℕ → ℕ) (e : Edge) : Type 0 where
-  pub first : e.ma ≡ stratum e.a
-  pub second : e.mb ≡ stratum e.b
-  pub low : e.ma < 274877906944
-  pub lower : e.mb < 274877906944

@@ -70,9 +70,14 @@ pub record Pushed (rs : List (List ℕ)) (w b : ℕ) (s₀ s : List ℕ) (k : �
   pub number : k ≡ length rs
   pub area : s ≡ stacked rs w b s₀
 
--- c rows of w words an element
+-- the rows of one element, c of them
+abbrev pub own_rows : (List ℕ → ℕ → List ℕ) → ℕ → Tet → List (List ℕ)
+own_rows row c t = map (row (vertices_of t)) (numbers 0 c)
+
+-- c rows of w words an element, told by the elements
 pub record Kind (w c : ℕ) (row : List ℕ → ℕ → List ℕ) (f : Tet → List (List ℕ)) : Type 0 where
   pub some : 0 < w
   pub wide : (i : ℕ) → (c * i + c * i) * w ≡ 24 * i
   pub size : (s : List ℕ) (j : ℕ) → length (row s j) ≡ w
+  pub told : (s : List ℕ) (i j : ℕ) → j < c * i → row (take (4 * i) s) j ≡ row s j
   pub numbered : (s : List ℕ) (i : ℕ) → map (row s) (numbers 0 (c * i)) ≡ spread f (tets i s)

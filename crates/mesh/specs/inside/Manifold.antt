@@ -47,13 +47,13 @@ cycle g = one_cycle (map link_pair g)
 abbrev pub pair_below : ℕ → Pair → Bool
 pair_below b e = nat_lt e.a b && nat_lt e.b b
 
--- the mark t stands from `base` on at the vertices seen and at no other, and no mark is higher
-abbrev pub Marked : ℕ → ℕ → List ℕ → List ℕ → Type 0
-Marked base t seen s = (x : ℕ) → ((word_at s (base + x) == t) ≡ mem x seen) × (word_at s (base + x) ≤ t)
+-- the mark t stands at the vertices seen and at no other, and no mark is higher
+abbrev pub Marked : ℕ → List ℕ → List ℕ → Type 0
+Marked t seen s = (x : ℕ) → ((word_at s x == t) ≡ mem x seen) × (word_at s x ≤ t)
 
 -- no mark is higher than t
-abbrev pub Low : ℕ → ℕ → List ℕ → Type 0
-Low base t s = (x : ℕ) → word_at s (base + x) ≤ t
+abbrev pub Low : ℕ → List ℕ → Type 0
+Low t s = (x : ℕ) → word_at s x ≤ t
 
 -- the words below `base` are as they were, and there are as many
 pub record KeptBelow (base : ℕ) (s₀ s : List ℕ) : Type 0 where
@@ -61,21 +61,20 @@ pub record KeptBelow (base : ℕ) (s₀ s : List ℕ) : Type 0 where
   pub long : length s ≡ length s₀
 
 -- s is s₀ with the vertices marked that `grow` adds, n of them
-pub record Grown (base t : ℕ) (es : List Pair) (s₀ s : List ℕ) (n : ℕ) : Type 0 where
-  pub kept : KeptBelow base s₀ s
-  pub marked : (seen : List ℕ) → Marked base t seen s₀ → Marked base t (grow es seen) s
-  pub added : (seen : List ℕ) → Marked base t seen s₀ → length (grow es seen) ≡ length seen + n
+pub record Grown (t : ℕ) (es : List Pair) (s₀ s : List ℕ) (n : ℕ) : Type 0 where
+  pub long : length s ≡ length s₀
+  pub marked : (seen : List ℕ) → Marked t seen s₀ → Marked t (grow es seen) s
+  pub added : (seen : List ℕ) → Marked t seen s₀ → length (grow es seen) ≡ length seen + n
 
--- k link rows from p on, below `base`, with their vertices inside the marks
-pub record LinkRun (p k base : ℕ) (s : List ℕ) : Type 0 where
-  pub few : base ≤ 983040
-  pub below : p + 4 * k ≤ base
-  pub room : base ≤ length s
-  pub known : every (pair_below (length s - base)) (map link_pair (rows 4 k (drop p s))) ≡ true
+-- k link rows from p on, with their vertices below b
+pub record LinkRun (p k b : ℕ) (s : List ℕ) : Type 0 where
+  pub few : length s ≤ 983040
+  pub room : p + 4 * k ≤ length s
+  pub known : every (pair_below b) (map link_pair (rows 4 k (drop p s))) ≡ true
 
--- m link rows behind the first m words, with their vertices inside the marks, and no mark
+-- m link rows behind the first m words, with their vertices inside the marks behind them, and no mark
 pub record LinkArea (m : ℕ) (s : List ℕ) : Type 0 where
   pub few : m ≤ 196608
   pub room : 9 * m ≤ length s
   pub known : every (λ r. pair_below (length s - 5 * m) (link_pair r)) (rows 4 m (drop m s)) ≡ true
-  pub fresh : Low (5 * m) 0 s
+  pub fresh : (x : ℕ) → word_at s (5 * m + x) ≡ 0

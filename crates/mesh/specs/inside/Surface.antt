@@ -4,7 +4,7 @@ use Rattle.std.specs.Prelude.{◌≡◌, ℕ, ◌+◌, ◌-◌, ◌*◌, ◌/◌
 use Rattle.mesh.specs.declared.element.Tet.{Tet}
 use Rattle.mesh.specs.declared.element.Triple.{Triple}
 use Rattle.mesh.specs.declared.boundary.Run.{Run}
-use Rattle.mesh.specs.declared.boundary.Run.TheVariants.{Single, Opposed, Level, Crowded}
+use Rattle.mesh.specs.declared.boundary.Run.TheVariants.{Single, Opposed, SameParity, Crowded}
 use Rattle.mesh.specs.Words.{word_at, zero_words, numbers, flat}
 use Rattle.mesh.specs.Tests.{every}
 use Rattle.mesh.specs.inside.Rows.{rows, eq_row}
@@ -106,7 +106,7 @@ kind_at s rs = kind same_key (same_parity s) rs
 abbrev pub run_number : Run → ℕ
 run_number Single = 0
 run_number Opposed = 1
-run_number Level = 17
+run_number SameParity = 17
 run_number Crowded = 16
 
 -- the face rows of n elements

@@ -2,11 +2,16 @@
 -- those slots that have all of them. For contracts of private functions and for proofs; definitions only.
 use Rattle.std.specs.Prelude.{ℕ, ◌/◌, Bool, cond, List, [], ◌∷◌, length, nat_le}
 use Rattle.mesh.specs.declared.star.Index.{Index}
+use Rattle.mesh.specs.declared.with.Chain.{Chain}
 use Rattle.mesh.specs.Complex.{sub}
-use Rattle.mesh.specs.inside.Star.{gather, corners_at, chain_length, chain_of, room_for, distinct, listed}
+use Rattle.mesh.specs.inside.Star.{walk, next_of, gather, corners_at, chain_length, chain_of, room_for, distinct, listed}
 use Rattle.mesh.specs.Tests.{any}
 
 -- ---- by the index
+
+-- the entries that are left of a chain
+abbrev pub chain_left : Chain → List ℕ
+chain_left c = walk c.index.room (next_of c.index c.words.now) c.left c.entry
 
 module _ (x : Index) (s : List ℕ) where
   -- the one of v and w whose chain has fewer entries, v where both have as many

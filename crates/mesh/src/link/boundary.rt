@@ -4,29 +4,23 @@ ghost use Rattle.std.proofs.Math.Seq.{paste};
 ghost use Rattle.mesh.specs.Words.{flat};
 ghost use Rattle.mesh.specs.Sort.{sort};
 ghost use Rattle.mesh.specs.inside.Rows.{rows, le_row};
-ghost use Rattle.mesh.specs.Element.{corners_of, tets};
 ghost use Rattle.mesh.specs.Link.{boundary_ok};
-ghost use Rattle.mesh.specs.inside.Group.{runs, same_first};
 ghost use Rattle.mesh.specs.inside.Manifold.{KeptBelow};
 ghost use Rattle.mesh.specs.inside.Faces.{SortedKeys, TriedKeys};
-ghost use Rattle.mesh.specs.inside.List.{stacked};
-ghost use Rattle.mesh.specs.inside.LinkRows.{mark, beside, link_pair, face_rows, face_in, alone_about, faces_alone, alone_faces, rows_of_faces, EdgeRows};
+ghost use Rattle.mesh.specs.inside.LinkAreas.{tets_of, Same, Kept, AloneRows, EdgeRows};
+ghost use Rattle.mesh.specs.inside.LinkRows.{beside, link_pair, face_rows, face_in, alone_about, alone_faces, rows_of_faces};
 
-use crate::element::{Pair, Triple, is_corner};
+use crate::element::{Pair, Triple};
 use crate::euler::list_triangles;
 use crate::faces::order_faces;
-use crate::link::marks::{links_meet, mark_by};
-use crate::rows::{put_row, run_from, sort_from};
+use crate::link::area::Area;
+use crate::link::marks::links_meet;
+use crate::rows::{put_row, sort_from};
+use crate::runs::Runs;
 use crate::words::copy_words;
 
-// The mark of a face.
-fn triple_mark(f: Triple, a: u32, b: u32) -> u32
-    ensures { result ≡ mark a b (corners_of f) }
-{
-    mark_by(is_corner(f, a), is_corner(f, b))
-}
-
 // The vertices of a face but v.
+// Kept by hand: as `opposite`.
 #[tactic(auto, unfolding(crate::specs::inside::LinkRows::beside))]
 fn beside(f: Triple, v: u32) -> Pair
     ensures { result ≡ beside f v }
@@ -41,21 +35,23 @@ fn beside(f: Triple, v: u32) -> Pair
     }
 }
 
-// The edge of a face opposite a, or opposite b where it has not a.
-fn link_pair(f: Triple, a: u32, b: u32) -> Pair
-    ensures { result ≡ link_pair a b f }
-{
-    beside(f, if is_corner(f, a) { a } else { b })
+impl Pair {
+    // The edge of a face opposite the end that the face is taken at.
+    fn link_pair(self, f: Triple) -> Pair
+        ensures { result ≡ link_pair self.a self.b f }
+    {
+        beside(f, self.apex(&f.corners()))
+    }
 }
 
 // Writes the rows of a face at p.
 #[tactic(auto, unfolding(crate::specs::Words::flat))]
-fn put_face(area: &mut [u32], p: usize, f: Triple, a: u32, b: u32)
+fn put_face(area: &mut [u32], p: usize, f: Triple, ab: Pair)
     requires { p + 9 ≤ length area.old }
-    ensures { area.new ≡ paste area.old p (flat (face_rows a b f)) 9 }
+    ensures { area.new ≡ paste area.old p (flat (face_rows ab.a ab.b f)) 9 }
 {
-    let e = link_pair(f, a, b);
-    let m = triple_mark(f, a, b);
+    let e = ab.link_pair(f);
+    let m = ab.mark(&f.corners());
     put_row(area, p, &[e.b, e.b, m, e.a, e.a, m, e.a, e.b, m]);
 }
 
@@ -82,76 +78,70 @@ fn drop_numbers(area: &mut [u32], p: usize, m: usize)
 }
 
 // Tries to sort the keys of the faces of many elements by counting, and gives whether that went well.
-fn counted_keys(area: &mut [u32], n: usize) -> bool
-    requires { (n ≤ 16384) × (88 * n ≤ length area.old) }
-    ensures { TriedKeys n area.old area.new result }
+fn counted_keys(area: &mut Area<'_>) -> bool
+    ensures { Same area.old area.new × TriedKeys area.old.n area.old.words.now area.new.words.now result }
 {
-    if n < 256 {
+    let n = area.n;
+    if n < 256 || !order_faces(area.words, n) {
         return false;
     }
-    if !order_faces(area, n) {
-        return false;
-    }
-    drop_numbers(area, 4 * n, 4 * n);
+    drop_numbers(area.words, 4 * n, 4 * n);
     true
 }
 
-// Writes the sorted keys of the faces of n elements behind them.
-fn sorted_keys(area: &mut [u32], n: usize)
-    requires { (n ≤ 16384) × (88 * n ≤ length area.old) }
-    ensures { SortedKeys n area.old area.new }
+// Writes the sorted keys of the faces of the elements behind them.
+fn sorted_keys(area: &mut Area<'_>)
+    ensures { Same area.old area.new × SortedKeys area.old.n area.old.words.now area.new.words.now }
 {
-    if counted_keys(area, n) {
+    if counted_keys(area) {
         return;
     }
-    list_triangles(area, n);
-    sort_from(area, 4 * n, 4 * n, 3);
+    let n = area.n;
+    list_triangles(area.words, n);
+    sort_from(area.words, 4 * n, 4 * n, 3);
 }
 
 // Whether k equal keys are one face with a or b.
-fn alone_about(k: usize, f: Triple, a: u32, b: u32) -> bool
-    ensures { result ≡ alone_about a b k f }
+fn alone_about(k: usize, f: Triple, ab: Pair) -> bool
+    ensures { result ≡ alone_about ab.a ab.b k f }
 {
-    k == 1 && 0 < triple_mark(f, a, b)
+    k == 1 && 0 < ab.mark(&f.corners())
 }
 
-// Writes the rows of the boundary faces about the edge, from the sorted keys behind the n elements, behind those keys. Gives how many faces.
-fn list_alone(area: &mut [u32], n: usize, a: u32, b: u32) -> usize
-    requires { (n ≤ 16384) × (88 * n ≤ length area.old) }
-    ensures { (result ≡ length (faces_alone a b (runs (same_first 3) (rows 3 (4 * n) (drop (4 * n) area.old))))) × (result ≤ 4 * n)
-        × (area.new ≡ stacked (map (λ f. flat (face_rows a b f)) (faces_alone a b (runs (same_first 3) (rows 3 (4 * n) (drop (4 * n) area.old))))) 9 (16 * n) area.old) }
+// Writes the rows of the boundary faces about the edge, from the sorted keys behind the elements, behind those keys. Gives how many faces.
+fn list_alone(area: &mut Area<'_>, ab: Pair) -> usize
+    ensures { Same area.old area.new × AloneRows ab.a ab.b area.old.n area.old.words.now area.new.words.now result }
 {
-    let m = 4 * n;
+    let n = area.n;
+    let start = area.boundary_start();
+    let words = &mut *area.words;
+    let (front, rest) = words.split_at_mut(start);
     let mut c = 0;
-    let mut first = 0;
-    // Kept by hand: a step is a run of rows.
-    while first < m {
-        let k = run_from(area, m, first, m, 3, 3);
-        let f = face_in(area, m + 3 * first);
-        if alone_about(k, f, a, b) {
-            put_face(area, 4 * m + 9 * c, f, a, b);
+    for (i, k) in Runs::new(front, 4 * n, 4 * n, 3, 3) {
+        let f = face_in(front, i);
+        if alone_about(k, f, ab) {
+            put_face(rest, 9 * c, f, ab);
             c += 1;
         }
-        first += k;
     }
     c
 }
 
-// The sorted rows of the boundary faces about the edge behind the first 16 n words, and how many rows.
-pub(crate) fn list_boundary(area: &mut [u32], n: usize, a: u32, b: u32) -> usize
-    requires { (n ≤ 16384) × (88 * n ≤ length area.old) }
-    ensures { (rows 3 result (drop (16 * n) area.new) ≡ sort le_row (rows_of_faces a b (alone_faces a b (tets n area.old)))) × (result ≤ 12 * n) × KeptBelow (4 * n) area.old area.new }
+// The sorted rows of the boundary faces about the edge behind the first 16 words an element, and how many rows.
+pub(crate) fn list_boundary(area: &mut Area<'_>, ab: Pair) -> usize
+    ensures { (rows 3 result (drop (16 * area.old.n) area.new.words.now) ≡ sort le_row (rows_of_faces ab.a ab.b (alone_faces ab.a ab.b (tets_of area.old)))) × (result ≤ 12 * area.old.n) × Kept area.old area.new }
 {
-    sorted_keys(area, n);
-    let c = 3 * list_alone(area, n, a, b);
-    sort_from(area, 16 * n, c, 3);
+    sorted_keys(area);
+    let c = 3 * list_alone(area, ab);
+    let start = area.boundary_start();
+    sort_from(area.words, start, c, 3);
     c
 }
 
-// Second test: "boundary links too", from the m sorted rows behind the first 16 n words.
-pub(crate) fn boundary_ok_in(area: &[u32], n: usize, m: usize) -> bool
-    requires { (n ≤ 16384) × (m ≤ 12 * n) × (88 * n ≤ length area.now) }
-    ensures { (a b : ℕ) → EdgeRows a b n m area.now → result ≡ boundary_ok a b (tets n area.now) }
+// Second test: "boundary links too", from the m sorted rows behind the first 16 words an element.
+pub(crate) fn boundary_ok_in(area: &Area<'_>, m: usize) -> bool
+    requires { m ≤ 12 * area.now.n }
+    ensures { (a b : ℕ) → EdgeRows a b m area.now → result ≡ boundary_ok a b (tets_of area.now) }
 {
-    links_meet(area, 16 * n, m, 2)
+    links_meet(area.words, area.boundary_start(), m, 2)
 }

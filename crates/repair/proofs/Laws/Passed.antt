@@ -6,10 +6,10 @@ use Prim.Native.Nat.{ℕ, ◌+◌, ◌-◌, ◌*◌, ◌≤◌}
 use native.Mathlib.Nat.{le_of_eq}
 use native.Mathlib.Omega.{arith}
 use lib.Dec.{eqb}
-use lib.Ieee.{Float}
 use lib.ListN.{length, take, drop, length-drop}
 use lib.Seq.{take_all}
 use Rattle.geometry.specs.declared.bounds.Options.{Options}
+use Rattle.geometry.specs.declared.point.Point.{Point}
 use Rattle.mesh.specs.declared.star.Index.{Index}
 use Rattle.mesh.specs.declared.intake.Sizes.{Sizes}
 use Rattle.mesh.specs.declared.element.Tet.{Tet}
@@ -37,36 +37,23 @@ use Rattle.repair.specs.Step.{State, mesh_of, finish}
 use Rattle.repair.proofs.Laws.Layout.{room-laid}
 use Rattle.mesh.proofs.Laws.Intake.Reads.{length-tets}
 
--- some mesh with the slices' vertices
-abbrev pub mesh_in : ℕ → List Float → List Float → List ℕ → Mesh
-mesh_in nv ps qs ms = record { parameters = points_of nv ps; points = points_of nv qs; masks = take nv ms; elements = []; surface = [] }
-
-pub begun-ready : (o : Options) (x : Index) (w : List ℕ) (es : List ℕ) (ps qs : List Float) (ms : List ℕ)
-    → ((m : Mesh) → m.parameters ≡ points_of x.vertices ps → Stands o m x x.room w (before_rounds (tets x.room es))) → Ready o x x.room w ps qs ms
+pub begun-ready : (o : Options) (x : Index) (w : List ℕ) (es : List ℕ) (ps qs : List Point) (ms : List ℕ)
+    → ((m : Mesh) → Reads m ps qs ms → Stands o m x x.room w (before_rounds (tets x.room es))) → Ready o x x.room w ps qs ms
 begun-ready o x w es ps qs ms h =
-    let m = mesh_in x.vertices ps qs ms in
-    (m, before_rounds (tets x.room es), record { parameters = refl; points = refl; masks = refl }, h m refl)
+    let m : Mesh = record { parameters = ps; points = qs; masks = ms; elements = []; surface = [] } in
+    let r : Reads m ps qs ms = record { parameters = refl; points = refl; masks = refl } in
+    (m, before_rounds (tets x.room es), r, h m r)
 
 module _ (z : Sizes) (es : List ℕ) (x : Index) (many : x.vertices ≡ z.vertices) (all : x.room ≡ z.elements) where
-  -- what `begin` requires
-  pub begins : (m : ℕ) → Room x z.elements m → 4 * z.elements ≤ length es → every (well_numbered z.vertices) (tets z.elements es) ≡ true
-      → Room x x.room m × (4 * x.room ≤ length es) × (every (well_numbered x.vertices) (tets x.room es) ≡ true)
-  begins m r f h = (
-    subst (λ u. Room x u m) (sym all) r,
-    subst (λ u. 4 * u ≤ length es) (sym all) f,
-    subst (λ u. every (well_numbered x.vertices) (tets u es) ≡ true) (sym all) (subst (λ u. every (well_numbered u) (tets z.elements es) ≡ true) (sym many) h),
-  )
-
   -- what `rounds` gives for the index's room it gives for the mesh's elements
-  module _ (o : Options) (m : Mesh) (ps qs : List Float) (ms : List ℕ) (v : Reads m z.vertices ps qs ms) where
+  module _ (o : Options) (m : Mesh) (ps qs : List Point) (ms : List ℕ) (v : Reads m ps qs ms) where
     pub rounded : (w₀ w : List ℕ) (count : ℕ)
-        → ((m : Mesh) → m.parameters ≡ points_of x.vertices ps → Stands o m x x.room w₀ (before_rounds (tets x.room es)))
-        → ((m : Mesh) (s : def.State) → Reads m x.vertices ps qs ms → Stands o m x x.room w₀ s
+        → ((m : Mesh) → Reads m ps qs ms → Stands o m x x.room w₀ (before_rounds (tets x.room es)))
+        → ((m : Mesh) (s : def.State) → Reads m ps qs ms → Stands o m x x.room w₀ s
         → Stands o m x x.room w (def.rounds o m (measure m.points) o.passes s) × (length (def.rounds o m (measure m.points) o.passes s).replaced ≡ count + length s.replaced))
         → Stands o m x z.elements w (after_rounds o m (tets z.elements es)) × (length (after_rounds o m (tets z.elements es)).replaced ≡ count + 0)
     rounded w₀ w count f g =
-        let r = subst (λ u. Reads m u ps qs ms) (sym many) v in
-        subst (λ u. Stands o m x u w (after_rounds o m (tets u es)) × (length (after_rounds o m (tets u es)).replaced ≡ count + 0)) all (g m (before_rounds (tets x.room es)) r (f m r.parameters))
+        subst (λ u. Stands o m x u w (after_rounds o m (tets u es)) × (length (after_rounds o m (tets u es)).replaced ≡ count + 0)) all (g m (before_rounds (tets x.room es)) v (f m v))
 
   module _ (o : Options) (m : Mesh) (s : def.State) (w w' : List ℕ) (st : Stands o m x z.elements w s) (k : ℕ) (ek : k ≡ length (about.live_list x z.elements w)) (e : w' ≡ about.live_in x z.elements w) where
     abbrev n : ℕ
@@ -143,7 +130,7 @@ module _ (z : Sizes) (es : List ℕ) (x : Index) (many : x.vertices ≡ z.vertic
 
 module _ (s : State) where
   -- the vertices of the mesh are those of the buffers
-  pub reads : Reads (mesh_of s) s.sizes.vertices s.parameters s.points s.masks
+  pub reads : Reads (mesh_of s) (points_of s.sizes.vertices s.parameters) (points_of s.sizes.vertices s.points) (take s.sizes.vertices s.masks)
   unfolding mesh_of
   reads = record { parameters = refl; points = refl; masks = refl }
 

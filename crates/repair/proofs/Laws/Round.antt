@@ -5,14 +5,14 @@ use mathlib.Core.List.{List, [], ◌∷◌, ◌++◌, map}
 use Prim.Native.Nat.{ℕ, zero, suc, ◌+◌, ◌*◌, ◌≤◌, ◌<◌}
 use native.Mathlib.Omega.{arith}
 use lib.Dec.{eqb, ltb}
-use lib.Ieee.{Float}
 use lib.ListN.{get_or, length, drop, length-append, length-map}
 use lib.Seq.{get_or-drop}
 use Rattle.std.specs.Prelude.{Option, None, Some}
 use Rattle.geometry.specs.declared.bounds.Options.{Options}
+use Rattle.geometry.specs.declared.point.Point.{Point}
 use Rattle.mesh.specs.declared.element.Pair.{Pair}
 use Rattle.mesh.specs.declared.star.Index.{Index}
-use Rattle.mesh.specs.Words.{word_at, points_of}
+use Rattle.mesh.specs.Words.{word_at}
 use Rattle.mesh.specs.Complex.{mem}
 use Rattle.mesh.specs.Tests.{every}
 use Rattle.mesh.specs.Element.{pair, same_pair}
@@ -138,7 +138,7 @@ among-drop e (suc p) (f ∷ l) r h = or_right (same_pair e f) (among-drop e p l 
 
 -- ---- where the loops stand
 
-module _ (o : Options) (x : Index) (n many : ℕ) (w₀ : List ℕ) (ps qs : List Float) (ms : List ℕ) where
+module _ (o : Options) (x : Index) (n many : ℕ) (w₀ : List ℕ) (ps qs : List Point) (ms : List ℕ) where
   -- the listed edges
   abbrev es : List Pair
   es = edges_in x many w₀
@@ -190,7 +190,7 @@ module _ (o : Options) (x : Index) (n many : ℕ) (w₀ : List ℕ) (ps qs : Lis
     pub listed : Listed w
     pub done : i ≤ many
     pub few : replaced ≤ 4096 * i
-    pub state : (m : Mesh) (s : State) → Reads m x.vertices ps qs ms → Stands o m x n w₀ s → Reached m s w replaced (drop i es)
+    pub state : (m : Mesh) (s : State) → Reads m ps qs ms → Stands o m x n w₀ s → Reached m s w replaced (drop i es)
 
   -- at the head of the loop over directions: the edge behind which i edges begin
   pub record AtWay (w : List ℕ) (replaced i : ℕ) (e : Pair) (d : ℕ) : Type 0 where
@@ -200,7 +200,7 @@ module _ (o : Options) (x : Index) (n many : ℕ) (w₀ : List ℕ) (ps qs : Lis
     pub few : replaced + 4096 ≤ 4096 * i
     pub below : below x.vertices e ≡ true
     pub way : d ≤ 2
-    pub state : (m : Mesh) (s : State) → Reads m x.vertices ps qs ms → Stands o m x n w₀ s → Faced m s w replaced e d (drop i es)
+    pub state : (m : Mesh) (s : State) → Reads m ps qs ms → Stands o m x n w₀ s → Faced m s w replaced e d (drop i es)
 
   -- at the head of the loop over pairs
   pub record AtPair (w : List ℕ) (replaced i : ℕ) (e : Pair) (d k p : ℕ) : Type 0 where
@@ -212,7 +212,7 @@ module _ (o : Options) (x : Index) (n many : ℕ) (w₀ : List ℕ) (ps qs : Lis
     pub way : (1 ≤ d) × (d ≤ 2)
     pub most : k ≤ x.vertices
     pub within : p ≤ k
-    pub state : (m : Mesh) (s : State) → Reads m x.vertices ps qs ms → Stands o m x n w₀ s → Paired m s w replaced e d k p (drop i es)
+    pub state : (m : Mesh) (s : State) → Reads m ps qs ms → Stands o m x n w₀ s → Paired m s w replaced e d k p (drop i es)
 
   -- ---- turns
 
@@ -356,7 +356,7 @@ module _ (o : Options) (x : Index) (n many : ℕ) (w₀ : List ℕ) (ps qs : Lis
     }
 
     module _ (w' : List ℕ) (r : Option ℕ) (less : d < 2)
-        (found : (m : Mesh) (s : State) → Reads m x.vertices ps qs ms → Stands o m x n w s → MayPair o m x n s (way_of e (d + 1)).a (way_of e (d + 1)).b w w' r) where
+        (found : (m : Mesh) (s : State) → Reads m ps qs ms → Stands o m x n w s → MayPair o m x n s (way_of e (d + 1)).a (way_of e (d + 1)).b w w' r) where
       one : MayPair o ways-ready.0 x n ways-ready.1 (way_of e (d + 1)).a (way_of e (d + 1)).b w w' r
       one = found ways-ready.0 ways-ready.1 ways-ready.2 ways-ready.3
 
@@ -438,7 +438,7 @@ module _ (o : Options) (x : Index) (n many : ℕ) (w₀ : List ℕ) (ps qs : Lis
 
     -- the direction failed, since a may not go into b: the next direction
     fail : (w' : List ℕ) → Same w w' x.area (length w)
-        → ((m : Mesh) (s : State) (r : Reads m x.vertices ps qs ms) (z : Stands o m x n w₀ s) → may_go o m (measure m.points) (h.state m s r z).at (way_of e d).a (way_of e d).b ≡ false)
+        → ((m : Mesh) (s : State) (r : Reads m ps qs ms) (z : Stands o m x n w₀ s) → may_go o m (measure m.points) (h.state m s r z).at (way_of e d).a (way_of e d).b ≡ false)
         → AtWay w' replaced i e d
     unfolding facing
     fail w' q never = record {
@@ -460,7 +460,7 @@ module _ (o : Options) (x : Index) (n many : ℕ) (w₀ : List ℕ) (ps qs : Lis
     }
 
     -- a test's parts: a may go into b where all pairs pass and the collapse gains
-    may-is : (m : Mesh) (s : State) (r : Reads m x.vertices ps qs ms) (z : Stands o m x n w₀ s)
+    may-is : (m : Mesh) (s : State) (r : Reads m ps qs ms) (z : Stands o m x n w₀ s)
         → may_go o m (measure m.points) (h.state m s r z).at (way_of e d).a (way_of e d).b
         ≡ (every (pair_ok o m (h.state m s r z).at.elements) (drop p (pairs_in x k w))
         && gains (measure m.points) (about (pairs_in x k w) (h.state m s r z).at.elements) (collapsed (pairs_in x k w) (about (pairs_in x k w) (h.state m s r z).at.elements)))
@@ -481,9 +481,9 @@ module _ (o : Options) (x : Index) (n many : ℕ) (w₀ : List ℕ) (ps qs : Lis
         two false b c h = absurd (clash h refl)
 
     module _ (w' : List ℕ) (b : Bool) (less : p < k) (q : Same w w' x.area (length w))
-        (tested : (m : Mesh) (s : State) → Reads m x.vertices ps qs ms → Stands o m x n w s → b ≡ pair_ok o m s.elements here) where
+        (tested : (m : Mesh) (s : State) → Reads m ps qs ms → Stands o m x n w s → b ≡ pair_ok o m s.elements here) where
       -- what is left begins with this pair's test
-      left_is : (m : Mesh) (s : State) (r : Reads m x.vertices ps qs ms) (z : Stands o m x n w₀ s)
+      left_is : (m : Mesh) (s : State) (r : Reads m ps qs ms) (z : Stands o m x n w₀ s)
           → every (pair_ok o m (h.state m s r z).at.elements) (drop p (pairs_in x k w)) ≡ (b && every (pair_ok o m (h.state m s r z).at.elements) (drop (p + 1) (pairs_in x k w)))
       left_is m s r z =
           let c = h.state m s r z in
@@ -525,16 +525,16 @@ module _ (o : Options) (x : Index) (n many : ℕ) (w₀ : List ℕ) (ps qs : Lis
       }
 
     module _ (w' : List ℕ) (b : Bool) (all : k ≤ p) (q : Same w w' x.area (length w))
-        (tested : (m : Mesh) (s : State) → m.points ≡ points_of x.vertices qs → Stands o m x n w s
+        (tested : (m : Mesh) (s : State) → Reads m ps qs ms → Stands o m x n w s
         → b ≡ gains (measure m.points) (about (pairs_in x k w) s.elements) (collapsed (pairs_in x k w) (about (pairs_in x k w) s.elements))) where
       -- all pairs passed, so the gain decides
-      decided : (m : Mesh) (s : State) (r : Reads m x.vertices ps qs ms) (z : Stands o m x n w₀ s)
+      decided : (m : Mesh) (s : State) (r : Reads m ps qs ms) (z : Stands o m x n w₀ s)
           → may_go o m (measure m.points) (h.state m s r z).at (way_of e d).a (way_of e d).b ≡ b
       decided m s r z =
           let c = h.state m s r z in
           let e₁ : p ≡ k = (let u = h.within in omega arith) in
           may-is m s r z
-          ∙ ap₂ (λ l u. every (pair_ok o m c.at.elements) l && u) (ap (λ u. drop u (pairs_in x k w)) e₁ ∙ pairs-none k (drop (pairs_at x) w)) (sym (tested m c.at r.points c.stands))
+          ∙ ap₂ (λ l u. every (pair_ok o m c.at.elements) l && u) (ap (λ u. drop u (pairs_in x k w)) e₁ ∙ pairs-none k (drop (pairs_at x) w)) (sym (tested m c.at r c.stands))
 
       -- it does not gain
       pub gain-fails : b ≡ false → AtWay w' replaced i e d
@@ -567,7 +567,7 @@ module _ (o : Options) (x : Index) (n many : ℕ) (w₀ : List ℕ) (ps qs : Lis
       }
 
   -- at the end all edges are tried
-  pub edges-end : (w : List ℕ) (replaced i : ℕ) → AtEdge w replaced i → many ≤ i → (m : Mesh) (s : State) → Reads m x.vertices ps qs ms → Stands o m x n w₀ s
+  pub edges-end : (w : List ℕ) (replaced i : ℕ) → AtEdge w replaced i → many ≤ i → (m : Mesh) (s : State) → Reads m ps qs ms → Stands o m x n w₀ s
       → Stands o m x n w (try_edges o m (measure m.points) s es) × (length (try_edges o m (measure m.points) s es).replaced ≡ replaced + length s.replaced)
   unfolding try_edges
   edges-end w replaced i h all m s r z =
@@ -576,12 +576,6 @@ module _ (o : Options) (x : Index) (n many : ℕ) (w₀ : List ℕ) (ps qs : Lis
       let f : c.at ≡ try_edges o m (measure m.points) s es =
       sym (ap (try_edges o m (measure m.points) c.at) (ap (λ u. drop u es) e ∙ edges_none many (drop (edges_at x) w₀))) ∙ c.left in
       (subst (Stands o m x n w) f c.stands, ap (λ (u : State). length u.replaced) (sym f) ∙ c.grown)
-
-  pub edges_few : (w : List ℕ) (replaced i : ℕ) → AtEdge w replaced i → replaced ≤ 4096 * many
-  edges_few w replaced i h = let a = h.done in let b = h.few in omega arith
-
-  pub pairs-room : (w : List ℕ) (replaced i : ℕ) (e : Pair) (d k p : ℕ) → AtPair w replaced i e d k p → Room x n (length w)
-  pairs-room w replaced i e d k p h = subst (Room x n) (sym h.listed.long) (room h.given)
 
 -- a number that is not 0 is above it
 pub above-none : (k : ℕ) → (k ≡ 0 → ⊥) → 0 < k

@@ -6,10 +6,10 @@ use mathlib.Core.List.{List, [], ◌∷◌, Memᴰ}
 use Prim.Native.Nat.{ℕ, suc, ◌+◌, ◌*◌, ◌≤◌, ◌<◌}
 use native.Mathlib.Omega.{arith}
 use lib.Dec.{eqb, ltb}
-use lib.Ieee.{Float}
 use lib.ListN.{length}
 use borrow.Author.Tests.{eq-eqb, ne_eqb, eqb-true, not-true}
 use Rattle.geometry.specs.declared.bounds.Options.{Options}
+use Rattle.geometry.specs.declared.point.Point.{Point}
 use Rattle.geometry.specs.Bounds.{spacing}
 use Rattle.mesh.specs.declared.element.Pair.{Pair}
 use Rattle.mesh.specs.declared.element.Tet.{Tet}
@@ -71,7 +71,7 @@ stands-element : (o : Options) (m : Mesh) (x : Index) (n : ℕ) (w : List ℕ) (
 unfolding live_in
 stands-element o m x n w s z t k = live-element x.vertices (slots_in x n w) t z.proper (subst (Memᴰ t) z.elements k)
 
-module _ (o : Options) (x : Index) (n : ℕ) (w₀ : List ℕ) (ps qs : List Float) (ms : List ℕ) where
+module _ (o : Options) (x : Index) (n : ℕ) (w₀ : List ℕ) (ps qs : List Point) (ms : List ℕ) where
   -- the state reached: from there `left` rounds give what all give from the start
   pub record Gone (m : Mesh) (s : State) (w : List ℕ) (replaced left : ℕ) : Type 0 where
     pub at : State
@@ -85,7 +85,7 @@ module _ (o : Options) (x : Index) (n : ℕ) (w₀ : List ℕ) (ps qs : List Flo
     pub most : left ≤ o.passes
     pub few : o.passes ≤ 16
     pub sum : replaced + 4294967296 * left ≤ 4294967296 * o.passes
-    pub state : (m : Mesh) (s : State) → Reads m x.vertices ps qs ms → Stands o m x n w₀ s → Gone m s w replaced left
+    pub state : (m : Mesh) (s : State) → Reads m ps qs ms → Stands o m x n w₀ s → Gone m s w replaced left
 
   pub rounds-start : Ready o x n w₀ ps qs ms → o.passes ≤ 16 → (left : ℕ) → left ≡ o.passes → AtRound w₀ 0 left
   rounds-start r f left e = record {
@@ -102,7 +102,7 @@ module _ (o : Options) (x : Index) (n : ℕ) (w₀ : List ℕ) (ps qs : List Flo
 
     -- the edges are listed
     module _ (w₁ : List ℕ) (count : ℕ) (same : Same w w₁ (edges_at x) (length w))
-        (listed : (m : Mesh) (s : State) → Reads m x.vertices ps qs ms → Stands o m x n w s → edges_in x count w₁ ≡ listed_edges (measure m.points) (spacing o) s.elements) where
+        (listed : (m : Mesh) (s : State) → Reads m ps qs ms → Stands o m x n w s → edges_in x count w₁ ≡ listed_edges (measure m.points) (spacing o) s.elements) where
       -- the work slice stands for the same state
       pub stands-listed : (m : Mesh) (s : State) → Stands o m x n w s → Stands o m x n w₁ s
       stands-listed m s z =
@@ -112,7 +112,7 @@ module _ (o : Options) (x : Index) (n : ℕ) (w₀ : List ℕ) (ps qs : List Flo
       pub listed-ready : Ready o x n w₁ ps qs ms
       listed-ready = (let g = rounds-ready in (g.0, g.1, g.2, stands-listed g.0 g.1 g.3))
 
-      joined : (m : Mesh) (s : State) → Reads m x.vertices ps qs ms → Stands o m x n w s → every (joins (length m.parameters)) (edges_in x count w₁) ≡ true
+      joined : (m : Mesh) (s : State) → Reads m ps qs ms → Stands o m x n w s → every (joins (length m.parameters)) (edges_in x count w₁) ≡ true
       joined m s r z =
           ap (every (joins (length m.parameters))) (listed m s r z)
           ∙ listed-joins (length m.parameters) (measure m.points) (spacing o) s.elements (λ t k. subst (λ u. IsElement u (vertices_of t)) (sym z.many) (stands-element o m x n w s z t k))
@@ -127,17 +127,17 @@ module _ (o : Options) (x : Index) (n : ℕ) (w₀ : List ℕ) (ps qs : List Flo
 
       -- the round is made
       module _ (w₂ : List ℕ) (k : ℕ) (more : 0 < left)
-          (made : (m : Mesh) (s : State) → Reads m x.vertices ps qs ms → Stands o m x n w₁ s
+          (made : (m : Mesh) (s : State) → Reads m ps qs ms → Stands o m x n w₁ s
           → Stands o m x n w₂ (try_edges o m (measure m.points) s (edges_in x count w₁)) × (length (try_edges o m (measure m.points) s (edges_in x count w₁)).replaced ≡ k + length s.replaced)) where
         -- what the round made of the state reached
-        turned : (m : Mesh) (s : State) → Reads m x.vertices ps qs ms → Stands o m x n w s
+        turned : (m : Mesh) (s : State) → Reads m ps qs ms → Stands o m x n w s
             → Stands o m x n w₂ (round o m (measure m.points) s) × (length (round o m (measure m.points) s).replaced ≡ k + length s.replaced)
         turned m s r z =
             subst (λ l. Stands o m x n w₂ (try_edges o m (measure m.points) s l) × (length (try_edges o m (measure m.points) s l).replaced ≡ k + length s.replaced)) (listed m s r z)
             (made m s r (stands-listed m s z))
 
         -- nothing was collapsed: the rounds end
-        pub rounds-idle : k ≡ 0 → (m : Mesh) (s : State) → Reads m x.vertices ps qs ms → Stands o m x n w₀ s
+        pub rounds-idle : k ≡ 0 → (m : Mesh) (s : State) → Reads m ps qs ms → Stands o m x n w₀ s
             → Stands o m x n w₂ (rounds o m (measure m.points) o.passes s) × (length (rounds o m (measure m.points) o.passes s).replaced ≡ replaced + length s.replaced)
         rounds-idle e m s r z =
             let c = h.state m s r z in
@@ -165,7 +165,7 @@ module _ (o : Options) (x : Index) (n : ℕ) (w₀ : List ℕ) (ps qs : List Flo
         }
 
     -- no round is left
-    pub rounds-done : left ≡ 0 → (m : Mesh) (s : State) → Reads m x.vertices ps qs ms → Stands o m x n w₀ s
+    pub rounds-done : left ≡ 0 → (m : Mesh) (s : State) → Reads m ps qs ms → Stands o m x n w₀ s
         → Stands o m x n w (rounds o m (measure m.points) o.passes s) × (length (rounds o m (measure m.points) o.passes s).replaced ≡ replaced + length s.replaced)
     unfolding rounds
     rounds-done e m s r z =

@@ -1,11 +1,12 @@
 -- Where `improve` keeps what it knows, in the work slice w for n elements (drawn in src/layout.rt), and when w says the same as a state of
 -- specs/Improve.antt. For the contracts of private functions; definitions only.
-use Rattle.std.specs.Prelude.{ℕ, zero, suc, ◌+◌, ◌*◌, ◌≤◌, ◌<◌, ◌≡◌, Bool, true, false, not, ◌||◌, List, [], ◌∷◌, map, ◌⊎◌, eqb, Float, length, take, drop}
+use Rattle.std.specs.Prelude.{ℕ, zero, suc, ◌+◌, ◌*◌, ◌≤◌, ◌<◌, ◌≡◌, Bool, true, false, not, ◌||◌, List, [], ◌∷◌, map, ◌⊎◌, eqb, length, take, drop}
 use Rattle.geometry.specs.declared.bounds.Options.{Options}
+use Rattle.geometry.specs.declared.point.Point.{Point}
 use Rattle.mesh.specs.declared.element.Pair.{Pair}
 use Rattle.mesh.specs.declared.element.Tet.{Tet}
 use Rattle.mesh.specs.declared.star.Index.{Index}
-use Rattle.mesh.specs.Words.{word_at, points_of, flat}
+use Rattle.mesh.specs.Words.{word_at, flat}
 use Rattle.mesh.specs.Sort.{sort}
 use Rattle.mesh.specs.inside.Rows.{le_row}
 use Rattle.mesh.specs.Complex.{mem, keep, Nodup}
@@ -18,6 +19,12 @@ use Rattle.mesh.specs.inside.List.{gone}
 use Rattle.mesh.specs.inside.Star.{Complete, gone_word}
 use Rattle.repair.specs.Mesh.{Mesh}
 use Rattle.repair.specs.Improve.{State}
+
+-- ---- the elements
+
+-- a buffer has room for n elements, with four different vertices of nv each
+abbrev pub Elements : ℕ → ℕ → List ℕ → Type 0
+Elements nv n els = (4 * n ≤ length els) × (every (well_numbered nv) (tets n els) ≡ true)
 
 -- ---- the areas
 
@@ -101,12 +108,12 @@ pub record Stands (o : Options) (m : Mesh) (x : Index) (n : ℕ) (w : List ℕ) 
   pub proper : every (slot_ok x.vertices) (slots_in x n w) ≡ true
   pub index : Complete x w (4 * n)
 
--- the vertices of the mesh are those of the slices
-pub record Reads (m : Mesh) (nv : ℕ) (ps qs : List Float) (ms : List ℕ) : Type 0 where
-  pub parameters : m.parameters ≡ points_of nv ps
-  pub points : m.points ≡ points_of nv qs
-  pub masks : m.masks ≡ take nv ms
+-- the vertices of the mesh have these parameters, points and masks
+pub record Reads (m : Mesh) (ps qs : List Point) (ms : List ℕ) : Type 0 where
+  pub parameters : m.parameters ≡ ps
+  pub points : m.points ≡ qs
+  pub masks : m.masks ≡ ms
 
--- the work slice stands for some state of a mesh with the slices' vertices
-abbrev pub Ready : Options → Index → ℕ → List ℕ → List Float → List Float → List ℕ → Type 0
-Ready o x n w ps qs ms = (m : Mesh) × (s : State) × Reads m x.vertices ps qs ms × Stands o m x n w s
+-- the work slice stands for some state of a mesh with such vertices
+abbrev pub Ready : Options → Index → ℕ → List ℕ → List Point → List Point → List ℕ → Type 0
+Ready o x n w ps qs ms = (m : Mesh) × (s : State) × Reads m ps qs ms × Stands o m x n w s

@@ -7,12 +7,15 @@
 //   faces    44 n  the elements of the start, behind them the shared faces (mesh, shared.rt), five words each
 //   edges    32 n  the elements of the start, behind them the bad ones, behind them their edges (mesh, list.rt), two words each
 //   area           the rest
+//
+// Kept by hand: the slice and its layout side by side, as in src/layout.rt. `RoomFor`, `Holds` and `Counted` name in one word what is asked
+// of the two.
 ghost use Rattle.std.specs.Prelude.{◌≡◌, ℕ, ◌+◌, ◌*◌, ◌≤◌};
 ghost use Rattle.repair.specs.inside.flip.Layout.{FlipRoom, faces_at, edges_at, triple_at};
 
 use mesh::element::Triple;
 use mesh::star::Index;
-use mesh::words::word;
+use mesh::words::at;
 
 // The layout for nv vertices and n elements, both within document 01's limits.
 pub(crate) fn flip_layout(nv: u32, n: u32) -> Index
@@ -57,8 +60,8 @@ pub(crate) fn triple_from(work: &[u32], p: usize) -> Triple
         return Triple { a: 0, b: 0, c: 0 };
     }
     Triple {
-        a: word(work, p),
-        b: word(work, p + 1),
-        c: word(work, p + 2),
+        a: at(work, p),
+        b: at(work, p + 1),
+        c: at(work, p + 2),
     }
 }

@@ -1,6 +1,6 @@
 // The elements of two or three slots replaced by others, in the work slice of `flip` (flip/layout.rt).
 ghost use Rattle.std.specs.Prelude.{◌≡◌, true, ℕ, ◌+◌, ◌≤◌, length};
-ghost use Rattle.mesh.specs.Words.{points_of};
+ghost use Rattle.mesh.specs.Words.{points_in};
 ghost use Rattle.mesh.specs.Tests.{every};
 ghost use Rattle.mesh.specs.Intake.{well_numbered};
 ghost use Rattle.mesh.specs.Measure.{measure};
@@ -10,6 +10,7 @@ ghost use Rattle.repair.specs.inside.flip.Tries.{Holds, Counted, Counts, Old};
 ghost use Rattle.repair.specs.inside.flip.Replace.{Empties, Adds};
 
 use crate::flip::counts::Tried;
+use crate::flip::inputs::Inputs;
 use crate::flip::orient::{is_accepted, orient};
 use crate::flip::slots::{add_slot, empty_slot};
 use mesh::element::Tet;
@@ -38,24 +39,23 @@ fn add_slots(work: &mut [u32], x: Index, c: u32, new: &[Tet])
 // Orients the candidates, and puts them in the place of the old elements in these slots where they are accepted.
 pub(crate) fn replace(
     work: &mut [u32],
-    x: Index,
+    given: &Inputs,
     t: Tried,
     at: &[u32],
     old: &[Tet],
     candidates: &mut [Tet],
-    points: &[f64],
 ) -> Tried
-    requires counted { Counted x t }
+    requires counted { Counted given.now.index t }
     requires few { (length old.now ≤ 3) × (length candidates.old ≤ 3) }
-    ensures by_index { (n : ℕ) (s : def.State) → Holds x n t work.old s → Old at.now old.now s
-        → every (well_numbered x.vertices) candidates.old ≡ true → t.slots + length candidates.old ≤ x.room
-        → Holds x n result work.new (def.replace (measure (points_of x.vertices points.now)) s at.now candidates.old)
-        × Kept x work.old work.new }
+    ensures by_index { (n : ℕ) (s : def.State) → Holds given.now.index n t work.old s → Old at.now old.now s
+        → every (well_numbered given.now.index.vertices) candidates.old ≡ true → t.slots + length candidates.old ≤ given.now.index.room
+        → Holds given.now.index n result work.new (def.replace (measure (points_in given.now.points)) s at.now candidates.old)
+        × Kept given.now.index work.old work.new }
     ensures counts { Counts t result }
 {
-    let nv = x.vertices as usize;
-    orient(points, nv, candidates);
-    if !is_accepted(points, nv, old, candidates) {
+    let x = given.index;
+    orient(given.points, candidates);
+    if !is_accepted(given.points, old, candidates) {
         return t;
     }
     let more = candidates.len() as u32;

@@ -7,7 +7,7 @@ ghost use Rattle.repair.specs.inside.flip.Layout.{SlotsStand, Kept};
 
 use crate::slots::put_slot;
 use mesh::element::Tet;
-use mesh::star::{GONE, Index, append};
+use mesh::star::{GONE, Index};
 
 // Empties the slot e.
 pub(crate) fn empty_slot(work: &mut [u32], x: Index, e: u32)
@@ -31,5 +31,5 @@ pub(crate) fn add_slot(work: &mut [u32], x: Index, c: u32, t: Tet)
         → SlotsStand x n (c + 1) work.new (record { slots = s.slots ++ (some t ∷ []); flips = s.flips }) × Kept x work.old work.new }
 {
     put_slot(work, x, c, t);
-    append(work, x, c, c + 1);
+    x.append(work, c, c + 1);
 }

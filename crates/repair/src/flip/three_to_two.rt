@@ -1,6 +1,6 @@
 // Three-to-two over an edge.
 ghost use Rattle.std.specs.Prelude.{◌≡◌, [], ◌∷◌, ℕ, ◌+◌, ◌≤◌, ◌<◌, length, take};
-ghost use Rattle.mesh.specs.Words.{points_of};
+ghost use Rattle.mesh.specs.Words.{points_in};
 ghost use Rattle.mesh.specs.Element.{tet, vertices_of};
 ghost use Rattle.mesh.specs.Link.{without};
 ghost use Rattle.mesh.specs.Measure.{measure};
@@ -11,13 +11,14 @@ ghost use Rattle.repair.specs.inside.flip.ThreeToTwo.{three_in, others_of, Puts,
 
 use crate::flip::counts::Tried;
 use crate::flip::find::{any_live, list_both};
+use crate::flip::inputs::Inputs;
 use crate::flip::layout::triple_from;
 use crate::flip::replace::replace;
 use crate::slots::slot;
 use mesh::element::{Pair, Tet, Triple};
 use mesh::rows::{sort_rows, unique_rows};
 use mesh::star::Index;
-use mesh::words::put_word;
+use mesh::words::put;
 
 // The elements in the slots with the three numbers of f.
 fn elements_in(work: &[u32], x: Index, f: Triple) -> [Tet; 3]
@@ -36,7 +37,7 @@ fn put_other(area: &mut [u32], k: usize, v: u32, e: Pair) -> usize
     if v == e.a || v == e.b {
         return k;
     }
-    put_word(area, k, v);
+    put(area, k, v);
     k + 1
 }
 
@@ -92,13 +93,14 @@ fn candidates(f: Triple, e: Pair) -> [Tet; 2]
 }
 
 // Tries the edge e.
-pub(crate) fn try_edge(work: &mut [u32], x: Index, t: Tried, e: Pair, points: &[f64]) -> Tried
-    requires { Counted x t }
-    ensures by_index { (n : ℕ) (s : State) → Holds x n t work.old s → EdgeListed x.vertices e → EdgesBound n s.slots
-        → Went x n (EdgesBound n) work.old work.new result (try_edge (measure (points_of x.vertices points.now)) s e) }
+pub(crate) fn try_edge(work: &mut [u32], given: &Inputs, t: Tried, e: Pair) -> Tried
+    requires { Counted given.now.index t }
+    ensures by_index { (n : ℕ) (s : State) → Holds given.now.index n t work.old s → EdgeListed given.now.index.vertices e → EdgesBound n s.slots
+        → Went given.now.index n (EdgesBound n) work.old work.new result (try_edge (measure (points_in given.now.points)) s e) }
     ensures counts { Counts t result }
 {
-    let k = list_both(work, x, e.a, e.b);
+    let x = given.index;
+    let k = list_both(work, x, e);
     if k != 3 {
         return t;
     }
@@ -113,5 +115,5 @@ pub(crate) fn try_edge(work: &mut [u32], x: Index, t: Tried, e: Pair, points: &[
         return t;
     }
     let mut new = candidates(f, e);
-    replace(work, x, t, &[i.a, i.b, i.c], &old, &mut new, points)
+    replace(work, given, t, &[i.a, i.b, i.c], &old, &mut new)
 }

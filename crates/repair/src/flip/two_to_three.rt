@@ -1,7 +1,7 @@
 // Two-to-three over a shared face.
 ghost use Rattle.std.specs.Prelude.{◌≡◌, List, [], ◌∷◌, ℕ, length, get_or};
 ghost use Rattle.mesh.specs.declared.element.Tet.{Tet};
-ghost use Rattle.mesh.specs.Words.{points_of};
+ghost use Rattle.mesh.specs.Words.{points_in};
 ghost use Rattle.mesh.specs.Element.{tet, vertices_of, corners_of};
 ghost use Rattle.mesh.specs.Link.{without};
 ghost use Rattle.mesh.specs.Measure.{measure};
@@ -11,10 +11,10 @@ ghost use Rattle.repair.specs.inside.flip.Tries.{Holds, Counted, Counts, Went, S
 
 use crate::flip::counts::Tried;
 use crate::flip::find::any_live;
+use crate::flip::inputs::Inputs;
 use crate::flip::replace::replace;
-use crate::slots::slot;
+use crate::slots::live_slot;
 use mesh::element::{Tet, Triple, is_corner};
-use mesh::star::{GONE, Index};
 
 // The first vertex of t that is no corner of f, and the last where all are.
 fn apex(t: Tet, f: Triple) -> u32
@@ -56,34 +56,30 @@ fn three_about(f: Triple, a: u32, b: u32) -> [Tet; 3]
 // Tries the face f, which of the elements at the start i and j have.
 pub(crate) fn try_face(
     work: &mut [u32],
-    x: Index,
+    given: &Inputs,
     t: Tried,
     f: Triple,
     i: u32,
     j: u32,
-    points: &[f64],
 ) -> Tried
-    requires { Counted x t }
-    ensures by_index { (n : ℕ) (ts : List Tet) (s : State) → Holds x n t work.old s → length ts ≡ n → FaceListed x.vertices ts f i j → Start ts s → FacesBound n s.slots
-        → Went x n (FacesBound n) work.old work.new result (try_face (measure (points_of x.vertices points.now)) ts s f)
-        × Start ts (try_face (measure (points_of x.vertices points.now)) ts s f) }
+    requires { Counted given.now.index t }
+    ensures by_index { (n : ℕ) (ts : List Tet) (s : State) → Holds given.now.index n t work.old s → length ts ≡ n → FaceListed given.now.index.vertices ts f i j → Start ts s → FacesBound n s.slots
+        → Went given.now.index n (FacesBound n) work.old work.new result (try_face (measure (points_in given.now.points)) ts s f)
+        × Start ts (try_face (measure (points_in given.now.points)) ts s f) }
     ensures counts { Counts t result }
 {
-    // Kept by hand: GONE in place of an Option. The slots are words that mesh indexes, and `slot` serves `improve` too, which writes an
-    // element that is gone back as it is; the fixed memory of the index needs the word.
-    let p = slot(work, x, i);
-    let q = slot(work, x, j);
-    if p.a == GONE {
+    let x = given.index;
+    let Some(p) = live_slot(work, x, i) else {
         return t;
-    }
-    if q.a == GONE {
+    };
+    let Some(q) = live_slot(work, x, j) else {
         return t;
-    }
+    };
     let a = apex(p, f);
     let b = apex(q, f);
     if any_live(work, x, a, b, b) {
         return t;
     }
     let mut new = three_about(f, a, b);
-    replace(work, x, t, &[i, j], &[p, q], &mut new, points)
+    replace(work, given, t, &[i, j], &[p, q], &mut new)
 }

@@ -6,26 +6,26 @@ ghost use Rattle.repair.specs.inside.Layout.{Room, flags_at};
 ghost use Rattle.repair.specs.inside.improve.Collapse.{slot_after, slot_replaced, slots_replaced, Goes, AllGo};
 
 use crate::layout::{flags_at, pairs_at};
-use crate::slots::{put_slot, slot};
-use mesh::element::{Tet, has_vertex};
-use mesh::star::{GONE, Index, join, star};
-use mesh::words::{put_word, word};
+use crate::slots::{pair_from, put_slot, slot};
+use mesh::element::{Pair, Tet, has_vertex};
+use mesh::star::{GONE, Index};
+use mesh::words::{at, put};
 
-// b for a, and any other vertex as it is.
-fn onto(a: u32, b: u32, v: u32) -> u32
-    ensures { result ≡ onto a b v }
+// e.b for e.a, and any other vertex as it is.
+fn onto(e: Pair, v: u32) -> u32
+    ensures { result ≡ onto e.a e.b v }
 {
-    if v == a { b } else { v }
+    if v == e.a { e.b } else { v }
 }
 
-// The slot t once a went into b.
-fn slot_after(t: Tet, a: u32, b: u32) -> Tet
-    ensures { result ≡ slot_after a b t }
+// The slot t once e.a went into e.b.
+fn slot_after(t: Tet, e: Pair) -> Tet
+    ensures { result ≡ slot_after e.a e.b t }
 {
-    if !has_vertex(t, a) {
+    if !has_vertex(t, e.a) {
         return t;
     }
-    if has_vertex(t, b) {
+    if has_vertex(t, e.b) {
         return Tet {
             a: GONE,
             b: GONE,
@@ -33,32 +33,28 @@ fn slot_after(t: Tet, a: u32, b: u32) -> Tet
             d: GONE,
         };
     }
-    Tet {
-        a: onto(a, b, t.a),
-        b: onto(a, b, t.b),
-        c: onto(a, b, t.c),
-        d: onto(a, b, t.d),
-    }
+    let [a, b, c, d] = [t.a, t.b, t.c, t.d].map(|v| onto(e, v));
+    Tet { a, b, c, d }
 }
 
-// In the slot e a goes into b.
-fn replace_in_slot(work: &mut [u32], x: Index, e: u32, a: u32, b: u32)
+// In the slot k e.a goes into e.b.
+fn replace_in_slot(work: &mut [u32], x: Index, k: u32, e: Pair)
     requires { x.slots ≤ 40960 }
-    ensures { work.new ≡ slot_replaced x a b e work.old }
+    ensures { work.new ≡ slot_replaced x e.a e.b k work.old }
 {
-    let t = slot(work, x, e);
-    put_slot(work, x, e, slot_after(t, a, b));
+    let t = slot(work, x, k);
+    put_slot(work, x, k, slot_after(t, e));
 }
 
-// In the slots that the k words from p on name a goes into b.
-fn replace_in_slots(work: &mut [u32], x: Index, p: usize, k: usize, a: u32, b: u32)
-    requires { (x.slots ≤ 40960) × (x.slots ≤ length work.old) × (p + k ≤ length work.old) }
-    ensures { work.new ≡ slots_replaced x a b k p work.old }
+// In the slots that the n words from p on name e.a goes into e.b.
+fn replace_in_slots(work: &mut [u32], x: Index, p: usize, n: usize, e: Pair)
+    requires { (x.slots ≤ 40960) × (x.slots ≤ length work.old) × (p + n ≤ length work.old) }
+    ensures { work.new ≡ slots_replaced x e.a e.b n p work.old }
 {
-    let e = p + k;
-    for q in p..e {
-        let s = word(work, q);
-        replace_in_slot(work, x, s, a, b);
+    let end = p + n;
+    for q in p..end {
+        let k = at(work, q);
+        replace_in_slot(work, x, k, e);
     }
 }
 
@@ -66,20 +62,20 @@ fn replace_in_slots(work: &mut [u32], x: Index, p: usize, k: usize, a: u32, b: u
 fn flag(work: &mut [u32], x: Index, a: u32)
     ensures { work.new ≡ set work.old (flags_at x + a) 1 }
 {
-    put_word(work, flags_at(x) + (a as usize), 1);
+    put(work, flags_at(x) + (a as usize), 1);
 }
 
-// a goes into b. With a itself for b it is flagged only.
-pub(crate) fn replace_one(work: &mut [u32], x: Index, a: u32, b: u32)
+// e.a goes into e.b. With the same vertex for both it is flagged only.
+pub(crate) fn replace_one(work: &mut [u32], x: Index, e: Pair)
     requires { Room x x.room (length work.old) }
-    ensures { Goes x x.room a b work.old work.new }
+    ensures { Goes x x.room e.a e.b work.old work.new }
 {
-    if a != b {
-        let k = star(work, x, a, a);
-        replace_in_slots(work, x, x.area, k, a, b);
-        join(work, x, b, a);
+    if e.a != e.b {
+        let n = x.star(work, e.a, e.a);
+        replace_in_slots(work, x, x.area, n, e);
+        x.join(work, e.b, e.a);
     }
-    flag(work, x, a);
+    flag(work, x, e.a);
 }
 
 // The first vertex of each of the k pairs in the pairs' area goes into its second, from the last pair to the first.
@@ -89,8 +85,7 @@ pub(crate) fn replace_all(work: &mut [u32], x: Index, k: usize)
 {
     let p = pairs_at(x);
     for i in (0..k).rev() {
-        let a = word(work, p + 2 * i);
-        let b = word(work, p + 2 * i + 1);
-        replace_one(work, x, a, b);
+        let e = pair_from(work, p + 2 * i);
+        replace_one(work, x, e);
     }
 }

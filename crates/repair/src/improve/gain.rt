@@ -1,22 +1,24 @@
 // What a collapse gains.
+//
+// Kept by hand: n elements from p on, in tally_images and gains_at as in quality.rt. A slice of them has 4 n words, which each contract would
+// have to say in place of the bound; no plainer.
 ghost use Rattle.std.specs.Prelude.{◌≡◌, ◌+◌, ◌*◌, ◌≤◌, length, drop};
-ghost use Rattle.geometry.specs.declared.bounds.Options.{Options};
-ghost use Rattle.mesh.specs.Words.{points_of};
+ghost use Rattle.mesh.specs.Words.{points_in};
 ghost use Rattle.mesh.specs.Element.{tets};
 ghost use Rattle.mesh.specs.Measure.{measure};
 ghost use Rattle.repair.specs.Mesh.{Mesh};
 ghost use Rattle.repair.specs.Improve.{State, image, image_of, about, collapsed, gains};
-ghost use Rattle.repair.specs.inside.Layout.{Room, Stands, Pairs, Same, pairs_at, pairs_in};
+ghost use Rattle.repair.specs.inside.Layout.{Pairs, Same, pairs_at, pairs_in};
+ghost use Rattle.repair.specs.inside.improve.Round.{ReadsOf, StandsOf, ReadyOf};
 ghost use Rattle.repair.specs.inside.Quality.{started, all_judged};
 
 use crate::improve::inputs::Inputs;
 use crate::layout::pairs_at;
-use crate::quality::{Tally, element_from, judge, start, tally_elements};
+use crate::quality::{Tally, element_from};
 use geometry::float::smaller;
-use mesh::about::{elements_at, star_about};
 use mesh::element::Tet;
 use mesh::star::Index;
-use mesh::words::word;
+use mesh::words::at;
 
 // The vertex that v goes into by the k pairs in the pairs' area, v itself where it is in no pair.
 fn image(work: &[u32], x: Index, k: usize, v: u32) -> u32
@@ -25,25 +27,20 @@ fn image(work: &[u32], x: Index, k: usize, v: u32) -> u32
 {
     let p = pairs_at(x);
     for i in 0..k {
-        if word(work, p + 2 * i) == v {
-            return word(work, p + 2 * i + 1);
+        if at(work, p + 2 * i) == v {
+            return at(work, p + 2 * i + 1);
         }
     }
     v
 }
 
 // The element t with the images of its vertices.
-// Kept by hand: a generic function over a closure, for this and the last case of `slot_after`, is longer than both.
 fn image_of(work: &[u32], x: Index, k: usize, t: Tet) -> Tet
     requires { pairs_at x + 2 * k ≤ length work.now }
     ensures { result ≡ image_of (image (pairs_in x k work.now)) t }
 {
-    Tet {
-        a: image(work, x, k, t.a),
-        b: image(work, x, k, t.b),
-        c: image(work, x, k, t.c),
-        d: image(work, x, k, t.d),
-    }
+    let [a, b, c, d] = [t.a, t.b, t.c, t.d].map(|v| image(work, x, k, v));
+    Tet { a, b, c, d }
 }
 
 // The images of the n elements that stand at p, counted; nothing where one is not allowed.
@@ -56,14 +53,13 @@ fn tally_images(
     limit: f64,
 ) -> Option<Tally>
     requires { (n ≤ 16384) × (p + 4 * n ≤ length work.now) × (pairs_at given.now.index + 2 * k ≤ length work.now) }
-    ensures { result ≡ all_judged (measure (points_of given.now.index.vertices given.now.points.now)) limit started (collapsed (pairs_in given.now.index k work.now) (tets n (drop p work.now))) }
+    ensures { result ≡ all_judged (measure (points_in given.now.points)) limit started (collapsed (pairs_in given.now.index k work.now) (tets n (drop p work.now))) }
 {
-    let nv = given.index.vertices as usize;
-    let mut r = start();
+    let mut r = Tally::start();
     for i in 0..n {
         let t = element_from(work, p + 4 * i);
         let u = image_of(work, given.index, k, t);
-        r = judge(r, given.points, nv, limit, u)?;
+        r = r.judged(given.points, limit, u)?;
     }
     Some(r)
 }
@@ -71,9 +67,9 @@ fn tally_images(
 // Whether the collapse gains, where the n elements about the pairs stand at p.
 fn gains_at(work: &[u32], given: &Inputs, k: usize, p: usize, n: usize) -> bool
     requires { (n ≤ 16384) × (p + 4 * n ≤ length work.now) × (pairs_at given.now.index + 2 * k ≤ length work.now) }
-    ensures { result ≡ gains (measure (points_of given.now.index.vertices given.now.points.now)) (tets n (drop p work.now)) (collapsed (pairs_in given.now.index k work.now) (tets n (drop p work.now))) }
+    ensures { result ≡ gains (measure (points_in given.now.points)) (tets n (drop p work.now)) (collapsed (pairs_in given.now.index k work.now) (tets n (drop p work.now))) }
 {
-    let old = tally_elements(work, p, n, given.points, given.index.vertices as usize);
+    let old = Tally::of_elements(work, p, n, given.points);
     let limit = smaller(old.lowest, 0.1);
     let Some(new) = tally_images(work, given, k, p, n, limit) else {
         return false;
@@ -83,15 +79,13 @@ fn gains_at(work: &[u32], given: &Inputs, k: usize, p: usize, n: usize) -> bool
 
 // Whether the collapse of the k pairs in the pairs' area gains: no element worse than allowed, and fewer bad ones or a higher lowest score.
 pub(crate) fn gains(work: &mut [u32], given: &Inputs, k: usize) -> bool
-    requires { Room given.now.index given.now.index.room (length work.old) × Pairs given.now.index.vertices (pairs_in given.now.index k work.old)
-        × ((o : Options) × (m : Mesh) × (s : State) × Stands o m given.now.index given.now.index.room work.old s) }
-    ensures value { (o : Options) (m : Mesh) (s : State) → m.points ≡ points_of given.now.index.vertices given.now.points.now
-        → Stands o m given.now.index given.now.index.room work.old s
+    requires { ReadyOf given.now work.old × Pairs given.now.index.vertices (pairs_in given.now.index k work.old) }
+    ensures value { (m : Mesh) (s : State) → ReadsOf given.now m → StandsOf given.now m work.old s
         → result ≡ gains (measure m.points) (about (pairs_in given.now.index k work.old) s.elements) (collapsed (pairs_in given.now.index k work.old) (about (pairs_in given.now.index k work.old) s.elements)) }
     ensures same { Same work.old work.new given.now.index.area (length work.old) }
 {
     let x = given.index;
-    let c = star_about(work, x, pairs_at(x), 2 * k, 1);
-    elements_at(work, x, c);
+    let c = x.star_about(work, pairs_at(x), 2 * k, 1);
+    x.elements_at(work, c);
     gains_at(work, given, k, x.area + c, c)
 }

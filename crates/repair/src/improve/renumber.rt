@@ -7,23 +7,24 @@
 //                         vertex: 0 while it is not met, else its new number + 1
 //   used      nv          the old number of each new vertex
 //   masks     nv          the mask of each new vertex
-ghost use Rattle.std.specs.Prelude.{◌≡◌, true, ◌++◌, map, ◌+◌, ◌-◌, ◌*◌, ◌≤◌, ltb, length, take, drop};
+//
+// Kept by hand: areas at offsets of one lent slice, with k, nv and n beside it (no heap). `Unmet`, `EndArea` and `MeshFits` name what is asked.
+ghost use Rattle.std.specs.Prelude.{◌≡◌, true, ◌++◌, ◌+◌, ◌-◌, ◌*◌, ◌≤◌, ltb, length, take, drop};
 ghost use Rattle.mesh.specs.Tests.{every};
 ghost use Rattle.mesh.specs.Element.{tets, all_vertices};
-ghost use Rattle.mesh.specs.Words.{word_at, point_in};
 ghost use Rattle.mesh.specs.inside.Manifold.{KeptBelow};
 ghost use Rattle.mesh.specs.Surface.{Surface, outcome_of};
 ghost use Rattle.repair.specs.Answer.{answer_of};
-ghost use Rattle.repair.specs.Step.{Answer, State, sizes_after, floats_of};
-ghost use Rattle.repair.specs.inside.improve.Renumber.{improve_end, EndArea, EndBuffers, used_at, numbered_at, met_at, Unmet, Numbered, Renumbered, tested_outcome, tested_part, Ended, listed, moved_points, moved_masks, MeshRoom, moved_in};
+ghost use Rattle.repair.specs.Step.{Answer, State, sizes_after, over};
+ghost use Rattle.repair.specs.inside.improve.Renumber.{improve_end, EndArea, EndFits, used_at, numbered_at, met_at, Unmet, Numbered, Renumbered, tested_outcome, tested_part, Ended, values_from, values_of, MeshFits, moved_in, state_in, SameBuffers};
 
 use crate::answer::Made;
+use crate::improve::buffers::Buffers;
 use mesh::boundary::boundary_in;
 use mesh::intake::Sizes;
 use mesh::manifold::nonmanifold_in;
 use mesh::refusal::Refusal;
-use mesh::vertex::point_at;
-use mesh::words::{clear, copy_floats_into, copy_into, put_float, put_word, word};
+use mesh::words::{Zero, at, copy_part, put, zero_all};
 
 // How many words an element takes before `used`: its own, and room for its faces.
 const END_WORDS: usize = 112;
@@ -33,16 +34,16 @@ fn number_word(area: &mut [u32], p: usize, marks: usize, used: usize, count: u32
     requires { (marks ≤ 65536) × (used ≤ 2000000) × (count ≤ 65536) }
     ensures { (result ≡ met_at marks count p area.old) × (area.new ≡ numbered_at marks used count p area.old) }
 {
-    let v = word(area, p);
+    let v = at(area, p);
     let q = marks + v as usize;
-    let mark = word(area, q);
+    let mark = at(area, q);
     if mark == 0 {
-        put_word(area, q, count + 1);
-        put_word(area, used + count as usize, v);
-        put_word(area, p, count);
+        put(area, q, count + 1);
+        put(area, used + count as usize, v);
+        put(area, p, count);
         count + 1
     } else {
-        put_word(area, p, mark - 1);
+        put(area, p, mark - 1);
         count
     }
 }
@@ -68,7 +69,7 @@ fn renumber(area: &mut [u32], k: usize, nv: usize) -> usize
 {
     let m = 4 * k;
     let e = m + nv;
-    clear(&mut area[m..e]);
+    zero_all(&mut area[m..e]);
     number_words(area, k, nv) as usize
 }
 
@@ -96,98 +97,69 @@ fn end_surface(area: &mut [u32], k: usize, nv: usize) -> Result<usize, Refusal>
     test_surface(area, m, e, c)
 }
 
-// Lists the points of the n vertices whose numbers stand from `used` on.
-fn list_points(floats: &mut [f64], points: &[f64], area: &[u32], used: usize, n: usize)
-    requires { (used + n ≤ length area.now) × (3 * n ≤ length floats.old) }
-    ensures { take (3 * n) floats.new ≡ floats_of (map (point_in points.now) (listed used n area.now)) }
+// Writes the W values from k on at i, zero where there is none.
+// Kept by hand: `W ≤ 3` here and in the two functions below. A trait of the two widths is no plainer.
+fn put_values<T: Zero, const W: usize>(list: &mut [T], i: usize, values: &[T], k: usize)
+    requires { (W ≤ 3) × (k ≤ 12884901885) × (i + W ≤ length list.old) }
+    ensures { take (i + W) list.new ≡ take i list.old ++ values_from T.zero values.now k W }
 {
-    for i in 0..n {
-        let v = word(area, used + i);
-        let p = point_at(points, v as usize);
-        put_float(floats, 3 * i, p.x);
-        put_float(floats, 3 * i + 1, p.y);
-        put_float(floats, 3 * i + 2, p.z);
+    for j in 0..W {
+        put(list, i + j, at(values, k + j));
     }
 }
 
-// Puts the points of the n vertices whose numbers stand from `used` on over the first n points.
-fn move_points(points: &mut [f64], floats: &mut [f64], area: &[u32], used: usize, n: usize)
-    requires { (used + n ≤ length area.now) × (3 * n ≤ length floats.old) × (3 * n ≤ length points.old) }
-    ensures { points.new ≡ moved_points (listed used n area.now) points.old }
+// Lists the W values of each of these vertices.
+fn list_values<T: Zero, const W: usize>(list: &mut [T], values: &[T], vertices: &[u32])
+    requires { (W ≤ 3) × (W * length vertices.now ≤ length list.old) }
+    ensures { take (W * length vertices.now) list.new ≡ values_of T.zero values.now W vertices.now }
 {
-    list_points(floats, points, area, used, n);
-    copy_floats_into(floats, 0, points, 0, 3 * n);
-}
-
-// Lists the masks of the n vertices whose numbers stand from `used` on, from `to` on.
-fn list_masks(area: &mut [u32], masks: &[u32], used: usize, to: usize, n: usize)
-    requires { (used + n ≤ to) × (to + n ≤ length area.old) }
-    ensures { (take n (drop to area.new) ≡ map (word_at masks.now) (listed used n area.old)) × KeptBelow to area.old area.new }
-{
-    for i in 0..n {
-        let v = word(area, used + i);
-        let x = word(masks, v as usize);
-        put_word(area, to + i, x);
+    for (i, v) in vertices.iter().enumerate() {
+        put_values::<T, W>(list, W * i, values, W * (*v as usize));
     }
 }
 
-// Puts the masks of the n vertices whose numbers stand from `used` on over the first n masks.
-fn move_masks(masks: &mut [u32], area: &mut [u32], used: usize, to: usize, n: usize)
-    requires { (used + n ≤ to) × (to + n ≤ length area.old) × (n ≤ length masks.old) }
-    ensures { (masks.new ≡ moved_masks (listed used n area.old) masks.old) × KeptBelow to area.old area.new }
+// Puts the W values of each of these vertices over the first values.
+fn move_values<T: Zero, const W: usize>(values: &mut [T], list: &mut [T], vertices: &[u32])
+    requires { (W ≤ 3) × (W * length vertices.now ≤ length list.old) × (W * length vertices.now ≤ length values.old) }
+    ensures { values.new ≡ over (values_of T.zero values.old W vertices.now) values.old }
 {
-    list_masks(area, masks, used, to, n);
-    copy_into(area, to, masks, 0, n);
+    list_values::<T, W>(list, values, vertices);
+    copy_part(list, 0, values, 0, W * vertices.len());
 }
 
 // Puts the mesh of these sizes that stands in the area over the first of the buffers.
-fn commit(
-    sizes: Sizes,
-    nv: usize,
-    parameters: &mut [f64],
-    points: &mut [f64],
-    masks: &mut [u32],
-    elements: &mut [u32],
-    surface: &mut [u32],
-    area: &mut [u32],
-    floats: &mut [f64],
-)
-    requires { MeshRoom sizes nv (length parameters.old) (length points.old) (length masks.old) (length elements.old) (length surface.old) (length area.old) (length floats.old) }
-    ensures { ◌≡◌ {A = State}
-        (record { parameters = parameters.exit.now; points = points.new; masks = masks.new; elements = elements.new; surface = surface.new; sizes = sizes })
-        (moved_in sizes nv area.old (record { parameters = parameters.entry.now; points = points.old; masks = masks.old; elements = elements.old; surface = surface.old; sizes = sizes })) }
+fn commit(sizes: Sizes, nv: usize, mesh: &mut Buffers, area: &mut [u32], floats: &mut [f64])
+    requires { MeshFits sizes nv mesh.old (length area.old) (length floats.old) }
+    ensures same { SameBuffers mesh.old mesh.new }
+    ensures moved { state_in sizes mesh.new ≡ moved_in sizes nv area.old (state_in sizes mesh.old) }
 {
     let n = sizes.vertices;
     let k = sizes.elements;
     let m = 4 * k;
     let w = 3 * sizes.triples;
     let used = END_WORDS * k + nv;
-    let to = used + nv;
-    move_points(parameters, floats, area, used, n);
-    move_points(points, floats, area, used, n);
-    move_masks(masks, area, used, to, n);
-    copy_into(area, 0, elements, 0, m);
-    copy_into(area, m, surface, 0, w);
+    let (front, list) = area.split_at_mut(used + nv);
+    let vertices = &front[used..used + n];
+    move_values::<f64, 3>(mesh.parameters, floats, vertices);
+    move_values::<f64, 3>(mesh.points, floats, vertices);
+    move_values::<u32, 1>(mesh.masks, list, vertices);
+    copy_part(front, 0, mesh.elements, 0, m);
+    copy_part(front, m, mesh.surface, 0, w);
 }
 
-// The end of `improve` for the k elements at the front of the area: done with the count and the new mesh in the buffers, or refused with
-// 16, 17 or 22 and the buffers as they were.
+// The end of `improve` for the k elements at the front of the area: done with the count and the new mesh in the buffers, or refused as
+// crowded, by parity or as nonmanifold, and the buffers as they were.
 pub(crate) fn finish_improve(
     sizes: Sizes,
     count: usize,
     k: usize,
-    parameters: &mut [f64],
-    points: &mut [f64],
-    masks: &mut [u32],
-    elements: &mut [u32],
-    surface: &mut [u32],
+    mesh: &mut Buffers,
     area: &mut [u32],
     floats: &mut [f64],
 ) -> Result<Made, Refusal>
-    requires { EndArea k sizes.vertices area.old × EndBuffers sizes k (length parameters.old) (length points.old) (length masks.old) (length elements.old) (length surface.old) (length floats.old) }
-    ensures { ◌≡◌ {A = Answer × State}
-        (answer_of result, record { parameters = parameters.exit.now; points = points.new; masks = masks.new; elements = elements.new; surface = surface.new; sizes = sizes_after (answer_of result) sizes })
-        (improve_end count (tets k area.old) (record { parameters = parameters.entry.now; points = points.old; masks = masks.old; elements = elements.old; surface = surface.old; sizes = sizes })) }
+    requires { EndArea k sizes.vertices area.old × EndFits sizes k mesh.old (length floats.old) }
+    ensures same { SameBuffers mesh.old mesh.new }
+    ensures ended { ◌≡◌ {A = Answer × State} (answer_of result, state_in (sizes_after (answer_of result) sizes) mesh.new) (improve_end count (tets k area.old) (state_in sizes mesh.old)) }
 {
     let nv = sizes.vertices;
     let n = renumber(area, k, nv);
@@ -197,8 +169,6 @@ pub(crate) fn finish_improve(
         elements: k,
         triples: c,
     };
-    commit(
-        sizes, nv, parameters, points, masks, elements, surface, area, floats,
-    );
+    commit(sizes, nv, mesh, area, floats);
     Ok(Made { count, sizes })
 }

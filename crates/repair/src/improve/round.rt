@@ -14,30 +14,26 @@ use crate::improve::inputs::Inputs;
 use crate::improve::pair_test::pair_ok;
 use crate::improve::partners::{find_pairs, is_active, stratum_rule};
 use crate::layout::edges_at;
+use crate::slots::pair_from;
 use mesh::element::Pair;
 use mesh::star::Index;
-use mesh::words::word;
 
 // The edge i of the round.
 fn edge_at(work: &[u32], x: Index, i: usize) -> Pair
     requires { (edges_at x ≤ 1048576) × (i ≤ 1048576) }
     ensures { (result.a ≡ word_at work.now (edges_at x + 4 * i + 2)) × (result.b ≡ word_at work.now (edges_at x + 4 * i + 3)) }
 {
-    let p = edges_at(x) + 4 * i;
-    Pair {
-        a: word(work, p + 2),
-        b: word(work, p + 3),
-    }
+    pair_from(work, edges_at(x) + 4 * i + 2)
 }
 
-// How many pairs the groups of a and b make, where a's stratum is inside b's and they pair off.
-fn may_pair(work: &mut [u32], given: &Inputs, a: u32, b: u32) -> Option<usize>
-    requires { ReadyOf given.now work.old × (a < given.now.index.vertices) × (b < given.now.index.vertices) }
+// How many pairs the groups of e.a and e.b make, where e.a's stratum is inside e.b's and they pair off.
+fn may_pair(work: &mut [u32], given: &Inputs, e: Pair) -> Option<usize>
+    requires { ReadyOf given.now work.old × (e.a < given.now.index.vertices) × (e.b < given.now.index.vertices) }
     ensures { (m : Mesh) (s : State) → ReadsOf given.now m → StandsOf given.now m work.old s
-        → MayPair given.now.options m given.now.index given.now.index.room s a b work.old work.new result }
+        → MayPair given.now.options m given.now.index given.now.index.room s e.a e.b work.old work.new result }
 {
-    if stratum_rule(given, a, b) {
-        find_pairs(work, given, a, b)
+    if stratum_rule(given, e) {
+        find_pairs(work, given, e)
     } else {
         None
     }
@@ -59,7 +55,7 @@ pub(crate) fn round(work: &mut [u32], given: &Inputs, count: usize) -> usize
             continue 'edges;
         }
         'directions: for t in [e, Pair { a: e.b, b: e.a }] {
-            let Some(k) = may_pair(work, given, t.a, t.b) else {
+            let Some(k) = may_pair(work, given, t) else {
                 continue 'directions;
             };
             for p in 0..k {

@@ -7,23 +7,12 @@ ghost use Rattle.mesh.specs.Tests.{every};
 ghost use Rattle.repair.specs.Project.{finite, usable, normalised, freed};
 ghost use Rattle.repair.specs.inside.project.Solve.{locks, row_of, rows_of};
 
-use crate::project::locked::{Locked, held};
+use crate::project::fields::Fields;
+use crate::project::locked::Locked;
+use crate::project::rows::{Row, Rows};
 use geometry::field::{Field, gradient, magnitude, value};
 use geometry::float::absolute;
 use geometry::point::Point;
-
-#[derive(Clone, Copy)]
-pub(crate) struct Row {
-    pub value: f64,
-    pub gradient: Point,
-}
-
-// Whether all fields are 0 at p.
-pub(crate) fn all_zero(active: &[Field], p: Point) -> bool
-    ensures { result ≡ every (λ f. eq (value f p) zero64) active.now }
-{
-    active.iter().all(|f| value(*f, p) == 0.0)
-}
 
 // Whether a magnitude m and a value v are usable: both finite, and the magnitude not 0.
 #[tactic(auto, using(crate::proofs::Laws::Project::Floats::finite_test))]
@@ -53,61 +42,68 @@ fn row_at(f: Field, p: Point) -> Option<Row>
     })
 }
 
+// The vector 0.
+const ZERO: Point = Point {
+    x: 0.0,
+    y: 0.0,
+    z: 0.0,
+};
+
 // A row of zeros.
-fn no_row() -> Row {
-    Row {
-        value: 0.0,
-        gradient: Point {
-            x: 0.0,
-            y: 0.0,
-            z: 0.0,
-        },
-    }
-}
+const NO_ROW: Row = Row {
+    value: 0.0,
+    gradient: ZERO,
+};
 
-// The rows of the fields at p, at the front of eight; nothing where one is not usable.
-pub(crate) fn rows_at(active: &[Field], p: Point) -> Option<[Row; 8]>
-    requires { length active.now ≤ 8 }
-    ensures { MatchOption result (every (usable p) active.now ≡ false)
-        (λ rows. (every (usable p) active.now ≡ true) × (length rows ≡ 8) × (rows_of (take (length active.now) rows) ≡ map (normalised p) active.now)) }
-{
-    let mut rows = [no_row(); 8];
-    for (i, f) in active.iter().enumerate() {
-        rows[i] = row_at(*f, p)?;
+impl<'a> Fields<'a> {
+    // Whether all fields are 0 at p.
+    pub(crate) fn all_zero(self, p: Point) -> bool
+        ensures { result ≡ every (λ f. eq (value f p) zero64) self.entry.list.now }
+    {
+        self.list.iter().all(|f| value(*f, p) == 0.0)
     }
-    Some(rows)
-}
 
-// Whether the values of the rows are all below the tolerance in size.
-pub(crate) fn all_near(rows: &[Row], tolerance: f64) -> bool
-    ensures { result ≡ every (λ r. lt (absolute r.value) tolerance) (rows_of rows.now) }
-{
-    rows.iter().all(|r| absolute(r.value) < tolerance)
+    // The rows of the fields at p, at the front of eight; nothing where one is not usable.
+    // Kept by hand, here and in `free`: an array of eight, no plainer: `ArrayVec` fills its room with default values, and a
+    // row has none.
+    pub(crate) fn rows_at(self, p: Point) -> Option<[Row; 8]>
+        ensures { MatchOption result (every (usable p) self.entry.list.now ≡ false)
+            (λ rows. (every (usable p) self.entry.list.now ≡ true) × (length rows ≡ 8) × (rows_of (take (length self.entry.list.now) rows) ≡ map (normalised p) self.entry.list.now)) }
+    {
+        let mut rows = [NO_ROW; 8];
+        for (i, f) in self.list.iter().enumerate() {
+            rows[i] = row_at(*f, p)?;
+        }
+        Some(rows)
+    }
 }
 
 // The row with 0 for the locked parts of its gradient.
 fn free_row(l: Locked, r: Row) -> Row
     ensures { row_of result ≡ freed (locks l) (row_of r) }
 {
-    let zero = Point {
-        x: 0.0,
-        y: 0.0,
-        z: 0.0,
-    };
     Row {
         value: r.value,
-        gradient: held(l, zero, r.gradient),
+        gradient: l.held(ZERO, r.gradient),
     }
 }
 
-// The same of each row, at the front of eight.
-pub(crate) fn free(l: Locked, rows: &[Row]) -> [Row; 8]
-    requires { length rows.now ≤ 8 }
-    ensures { rows_of (take (length rows.now) result) ≡ map (freed (locks l)) (rows_of rows.now) }
-{
-    let mut out = [no_row(); 8];
-    for (i, r) in rows.iter().enumerate() {
-        out[i] = free_row(l, *r);
+impl<'a> Rows<'a> {
+    // Whether the values of the rows are all below the tolerance in size.
+    pub(crate) fn all_near(self, tolerance: f64) -> bool
+        ensures { result ≡ every (λ r. lt (absolute r.value) tolerance) (rows_of self.entry.list.now) }
+    {
+        self.list.iter().all(|r| absolute(r.value) < tolerance)
     }
-    out
+
+    // Each row with 0 for the locked parts of its gradient, at the front of eight.
+    pub(crate) fn free(self, l: Locked) -> [Row; 8]
+        ensures { rows_of (take (length self.entry.list.now) result) ≡ map (freed (locks l)) (rows_of self.entry.list.now) }
+    {
+        let mut out = [NO_ROW; 8];
+        for (i, r) in self.list.iter().enumerate() {
+            out[i] = free_row(l, *r);
+        }
+        out
+    }
 }

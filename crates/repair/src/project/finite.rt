@@ -7,7 +7,7 @@ use geometry::float::absolute;
 use geometry::point::Point;
 
 // The larger of a and b, and a where b is a NaN.
-// Kept by hand: f64::max gives b where a is a NaN, and this gives a.
+// `f64::max` is another function: it gives b where a is a NaN.
 pub(crate) fn larger(a: f64, b: f64) -> f64
     ensures { result ≡ larger a b }
 {

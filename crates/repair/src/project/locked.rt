@@ -8,31 +8,11 @@ use crate::project::finite::larger;
 use geometry::bounds::Bounds;
 use geometry::point::Point;
 
-#[derive(Clone, Copy)]
-pub(crate) struct Locked {
-    pub x: bool,
-    pub y: bool,
-    pub z: bool,
-}
-
 // Whether v is lo or hi.
 fn is_end(v: f64, lo: f64, hi: f64) -> bool
     ensures { result ≡ (eq v lo || eq v hi) }
 {
     v == lo || v == hi
-}
-
-// The directions in which p lies on lo or hi.
-pub(crate) fn locked_at(b: Bounds, p: Point) -> Locked
-    ensures { locks result ≡ locked_of b p }
-{
-    let lo = b.lo;
-    let hi = b.hi;
-    Locked {
-        x: is_end(p.x, lo.x, hi.x),
-        y: is_end(p.y, lo.y, hi.y),
-        z: is_end(p.z, lo.z, hi.z),
-    }
 }
 
 // a where locked, else b.
@@ -42,14 +22,37 @@ fn choose(locked: bool, a: f64, b: f64) -> f64
     if locked { a } else { b }
 }
 
-// p in the locked directions, q in the others.
-pub(crate) fn held(l: Locked, p: Point, q: Point) -> Point
-    ensures { result ≡ held (locks l) p q }
-{
-    Point {
-        x: choose(l.x, p.x, q.x),
-        y: choose(l.y, p.y, q.y),
-        z: choose(l.z, p.z, q.z),
+// Whether x, y and z are locked.
+#[derive(Clone, Copy)]
+pub(crate) struct Locked {
+    pub x: bool,
+    pub y: bool,
+    pub z: bool,
+}
+
+impl Locked {
+    // The directions in which p lies on lo or hi.
+    pub(crate) fn at(b: Bounds, p: Point) -> Locked
+        ensures { locks result ≡ locked_of b p }
+    {
+        let lo = b.lo;
+        let hi = b.hi;
+        Locked {
+            x: is_end(p.x, lo.x, hi.x),
+            y: is_end(p.y, lo.y, hi.y),
+            z: is_end(p.z, lo.z, hi.z),
+        }
+    }
+
+    // p in the locked directions, q in the others.
+    pub(crate) fn held(self, p: Point, q: Point) -> Point
+        ensures { result ≡ held (locks self) p q }
+    {
+        Point {
+            x: choose(self.x, p.x, q.x),
+            y: choose(self.y, p.y, q.y),
+            z: choose(self.z, p.z, q.z),
+        }
     }
 }
 

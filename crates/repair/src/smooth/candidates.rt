@@ -1,83 +1,29 @@
-// The candidates of `smooth`: the active fields of a vertex, the nine points that a group may move to, and which of them are allowed.
-ghost use Rattle.std.specs.Prelude.{◌≡◌, cond, ◌&&◌, map, ◌≤◌, length, take};
+// The candidates of `smooth`: the nine points that a group may move to, and which of them are allowed.
+ghost use Rattle.std.specs.Prelude.{◌≡◌, cond, ◌&&◌, map, ◌≤◌, length};
 ghost use Rattle.std.specs.Float.Ieee.{eq};
-ghost use Rattle.mesh.specs.Words.{point_at, points_of};
-ghost use Rattle.repair.specs.Smooth.{chosen, outside, outside_all, mean, along, allowed, kept_on};
-ghost use Rattle.repair.specs.inside.smooth.Candidates.{regions_in, nine, sum, divided};
+ghost use Rattle.mesh.specs.Words.{point_at, points_in};
+ghost use Rattle.repair.specs.Smooth.{mean, along, allowed, kept_on};
+ghost use Rattle.repair.specs.Step.{regions_in};
+ghost use Rattle.repair.specs.inside.smooth.Candidates.{nine, sum, divided};
 
+use crate::project::fields::Fields;
+use crate::smooth::regions::Regions;
 use geometry::bounds::{Axis, Options, spacing};
-use geometry::field::{Field, value};
 use geometry::point::Point;
 use mesh::intake::in_box;
-use mesh::vertex::vertex_point;
-
-// The fields whose bit the mask has, the first field's being bit 0, at the front of eight in their order, and how many.
-// Kept by hand: no heap is used, so the fields stand in an array of eight beside their number.
-pub(crate) fn active_fields(mask: u32, fields: &[Field]) -> ([Field; 8], usize)
-    requires { length fields.now ≤ 8 }
-    ensures { (length result.0 ≡ 8) × (result.1 ≤ 8) × (take result.1 result.0 ≡ chosen mask fields.now) }
-{
-    let mut active = [Field::Level(0.0); 8];
-    let mut n = 0;
-    let mut bits = mask;
-    for f in fields {
-        if bits % 2 == 1 {
-            active[n] = *f;
-            n += 1;
-        }
-        bits /= 2;
-    }
-    (active, n)
-}
-
-// Whether p is outside one of the fields: its value above 1e-9.
-fn outside(p: Point, fields: &[Field]) -> bool
-    ensures { result ≡ outside p fields.now }
-{
-    fields.iter().any(|f| 1e-9 < value(*f, p))
-}
-
-// The same of the fields whose bit the mask has.
-fn outside_region(p: Point, fields: &[Field], mask: u32) -> bool
-    ensures { result ≡ outside p (chosen mask fields.now) }
-{
-    let mut bits = mask;
-    for f in fields {
-        if bits % 2 == 1 && 1e-9 < value(*f, p) {
-            return true;
-        }
-        bits /= 2;
-    }
-    false
-}
-
-// Whether p is outside every region: without a list all fields are one region.
-fn outside_all(p: Point, fields: &[Field], regions: Option<&[u32]>) -> bool
-    ensures { result ≡ outside_all p fields.now (regions_in regions.entry) }
-{
-    match regions {
-        None => outside(p, fields),
-        Some(masks) => masks.iter().all(|mask| outside_region(p, fields, *mask)),
-    }
-}
+use mesh::vertex::Points;
 
 // Whether a projected candidate p is inside the box, no further than 0.5 h from the origin and, where a field is active, in a region.
-pub(crate) fn allowed(
-    o: Options,
-    fields: &[Field],
-    regions: Option<&[u32]>,
-    origin: Point,
-    active: &[Field],
-    p: Point,
-) -> bool
-    ensures { result ≡ allowed o fields.now (regions_in regions.entry) origin active.now p }
+pub(crate) fn allowed(o: Options, regions: Regions, origin: Point, active: Fields, p: Point) -> bool
+    ensures { result ≡ allowed o regions.entry.fields.list.now (regions_in regions.entry.masks) origin active.entry.list.now p }
 {
     in_box(o.bounds, p)
         && !(0.5 * spacing(o) < (p - origin).norm())
-        && (active.is_empty() || !outside_all(p, fields, regions))
+        && (active.list.is_empty() || !regions.outside_all(p))
 }
 
 // a + b, per direction.
+// Kept by hand, with `divide` and `along`: no plainer, since an impl of Add, Div or Mul for `Point`, with its law, is longer than the function.
 fn add(a: Point, b: Point) -> Point
     ensures { result ≡ sum a b }
 {
@@ -101,19 +47,18 @@ fn divide(a: Point, n: usize) -> Point
     }
 }
 
-// The mean of the first n vertices of a list, whose parameters are summed left to right. At most 4,096, so that n is exact as an f64.
-pub(crate) fn mean_of(parameters: &[f64], nv: usize, list: &[u32], n: usize) -> Point
-    requires { n ≤ 4096 }
-    ensures { result ≡ mean (map (point_at (points_of nv parameters.now)) (take n list.now)) }
+// The mean of the vertices of a list, whose parameters are summed left to right. At most 4,096, so that the count is exact as an f64.
+pub(crate) fn mean_of(parameters: Points, near: &[u32]) -> Point
+    requires { length near.now ≤ 4096 }
+    ensures { result ≡ mean (map (point_at (points_in parameters.entry)) near.now) }
 {
-    let near = &list[..n.min(list.len())];
     let mut s = Point {
         x: -0.0,
         y: -0.0,
         z: -0.0,
     };
     for v in near {
-        s = add(s, vertex_point(parameters, nv, *v));
+        s = add(s, parameters.at(*v));
     }
     divide(s, near.len())
 }

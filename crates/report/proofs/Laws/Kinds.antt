@@ -1,15 +1,15 @@
 -- The kinds of the fields, one by one. Assumes nothing.
-use Rattle.std.proofs.Common.{◌≡◌, ℕ, suc, ◌+◌, ◌-◌, ◌<◌, ◌≤◌, Bool, true, false, leb, List, sym, arith, le-leb}
+use Rattle.std.proofs.Common.{◌≡◌, ℕ, suc, ◌+◌, ◌-◌, ◌<◌, ◌≤◌, Bool, true, false, leb, List, sym, ap, arith, le-leb, ne_eqb}
 use borrow.Author.Tests.{lt-leb}
 use Rattle.std.specs.Prelude.{Result, Ok, Err}
 use Rattle.std.specs.Result.{is_ok, result_unwrap_or}
 use Rattle.geometry.specs.declared.field.Kind.{Kind}
 use Rattle.geometry.specs.declared.field.UnknownKind.{UnknownKind}
-use Rattle.geometry.specs.Field.{NumberOf}
+use Rattle.geometry.specs.Field.{number_of, NumberOf}
 use Rattle.mesh.specs.Words.{numbers}
 use Rattle.mesh.specs.Tests.{every}
 use Rattle.report.specs.Format.{field_places, ball_kind}
-use Rattle.report.specs.Block.{fields_in, kind_at, kinds_number}
+use Rattle.report.specs.Block.{fields_in, kind_at, field_from, kinds_number}
 
 module _ (p : ℕ → Bool) (n j : ℕ) (b : Bool) (all : every p (numbers j (n - j)) ≡ b) where
   -- the number j passes
@@ -53,22 +53,8 @@ kind-known n (Ok Kind.Plane) e = sym (le-leb n ball_kind (omega arith))
 kind-known n (Ok Kind.Ball) e = sym (le-leb n ball_kind (omega arith))
 kind-known n (Err u) e = sym (lt-leb n ball_kind e.1)
 
--- the kind that is read, and a ball for what is unknown
-module _ (n : ℕ) where
-  pub kind-level : (r : Result Kind UnknownKind) → NumberOf n r → Kind.Level ≡ result_unwrap_or r Kind.Ball → n ≡ 0
-  kind-level (Ok Kind.Level) e h = sym e
-  kind-level (Ok Kind.Plane) e h = cc
-  kind-level (Ok Kind.Ball) e h = cc
-  kind-level (Err u) e h = cc
-
-  pub kind-plane : (r : Result Kind UnknownKind) → NumberOf n r → Kind.Plane ≡ result_unwrap_or r Kind.Ball → n ≡ 1
-  kind-plane (Ok Kind.Level) e h = cc
-  kind-plane (Ok Kind.Plane) e h = sym e
-  kind-plane (Ok Kind.Ball) e h = cc
-  kind-plane (Err u) e h = cc
-
-  pub kind-ball : (r : Result Kind UnknownKind) → NumberOf n r → Kind.Ball ≡ result_unwrap_or r Kind.Ball → 1 < n
-  kind-ball (Ok Kind.Level) e h = cc
-  kind-ball (Ok Kind.Plane) e h = cc
-  kind-ball (Ok Kind.Ball) e h = omega (arith, e)
-  kind-ball (Err u) e h = omega (arith, e.1)
+-- the kind that is read, and a ball for what is unknown, give the field of the number
+pub kind-field : (s : List ℕ) (i n : ℕ) (r : Result Kind UnknownKind) → NumberOf n r → field_from s (number_of (result_unwrap_or r Kind.Ball)) i ≡ field_from s n i
+unfolding field_from
+kind-field s i n (Ok k) e = ap (λ (m : ℕ). field_from s m i) e
+kind-field s i n (Err u) e = let h : 2 < n = e.1 in rw (ne_eqb n 0 (λ f. omega arith), ne_eqb n 1 (λ f. omega arith))

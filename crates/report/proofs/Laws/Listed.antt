@@ -1,6 +1,6 @@
 -- Rows written one behind the other to the front of a slice. Assumes nothing.
-use Rattle.std.proofs.Common.{◌≡◌, ℕ, zero, suc, ◌+◌, ◌*◌, ◌≤◌, List, [], ◌∷◌, ◌++◌, length, take, drop, set, sym, ap, ◌∙◌, ap₂, add-one, arith, length-append, take_all, drop-drop, take_at}
-use lib.Seq.{drop-append-add, paste, sets-eq}
+use Rattle.std.proofs.Common.{◌≡◌, ℕ, zero, suc, ◌+◌, ◌*◌, List, ◌++◌, length, take, drop, sym, ap, ◌∙◌, ap₂, add-one, arith, length-append, take_all, drop-drop, take_at}
+use lib.Seq.{drop-append-add, paste}
 use Rattle.report.specs.Bytes.{listed}
 
 -- n rows of w places
@@ -23,16 +23,3 @@ listed_more row w i p q o cur new size long next e f =
     let mid : take w (row i) ≡ row i = take_all w (row i) (omega arith) in
     let back : drop (p + w) cur ≡ drop q o = ap (drop (p + w)) e ∙ (ap (λ (k : ℕ). drop (k + w) (l ++ drop p o)) (sym long) ∙ (drop-append-add l (drop p o) w ∙ (drop-drop w p o ∙ ap (λ (k : ℕ). drop k o) (sym next)))) in
     rw add-one (f ∙ ap₂ (λ (a b : List _). a ++ b) (ap₂ (λ (a b : List _). a ++ b) front mid) back)
-
--- three stores are a paste
-pub put_three : {A : Type 0} (s : List A) (p : ℕ) (x y z : A) → p + 3 ≤ length s → set (set (set s p x) (p + 1) y) (p + 2) z ≡ paste s p (x ∷ y ∷ z ∷ []) 3
-put_three s p x y z h = let e : p + 1 ≡ suc p = omega arith in let f : p + 2 ≡ suc (suc p) = omega arith in rw (e, f) (sets-eq (x ∷ y ∷ z ∷ []) s p (omega arith))
-
--- four stores are a paste
-pub put_four : {A : Type 0} (s : List A) (p : ℕ) (x y z w : A) → p + 4 ≤ length s
-    → set (set (set (set s p x) (p + 1) y) (p + 2) z) (p + 3) w ≡ paste s p (x ∷ y ∷ z ∷ w ∷ []) 4
-put_four s p x y z w h =
-    let e : p + 1 ≡ suc p = omega arith in
-    let f : p + 2 ≡ suc (suc p) = omega arith in
-    let g : p + 3 ≡ suc (suc (suc p)) = omega arith in
-    rw (e, f, g) (sets-eq (x ∷ y ∷ z ∷ w ∷ []) s p h)

@@ -23,7 +23,6 @@ use Rattle.repair.specs.Step.{State, Call, Pass, sizes_after, committed, lengths
 use Rattle.report.specs.Run.{Ran}
 use Rattle.report.specs.Run.{Finished, Stopped}
 use Rattle.report.specs.Run.{Setting, call_in, after, called, run_flip, run_smooth, run_passes}
-use Rattle.report.specs.inside.Written.{Roomy}
 
 -- ---- the counts of simplices
 
@@ -95,10 +94,6 @@ unfolding step
 step_room c s count z e =
     let k = intake (given (lengths_of c s) c s) in
     finish-room s (cond (eqb k 0) (result_of c.pass c (mesh_of s)) (refused k)) count z e
-
--- buffers keep their lengths, and so the room for the table
-pub roomy-kept : {n e w e' w' : ℕ} → Roomy n e w → e' ≡ e → w' ≡ w → Roomy n e' w'
-roomy-kept r h k = record { fields = r.fields; elements = omega (arith, r.elements); work = omega (arith, r.work) }
 
 -- ---- after an answer
 

@@ -5,31 +5,14 @@ use Rattle.mesh.specs.inside.Complex.{Proper}
 use Rattle.mesh.specs.Element.{tets, vertices_of}
 use Rattle.report.specs.Run.{Ran}
 use Rattle.report.specs.Run.{Finished, Stopped}
-use Rattle.report.specs.Format.{field_places, most_vertices, most_elements}
-use Rattle.report.specs.Report.{element_room, word_room}
 
 -- the bytes of a text stand from the place `at` on, and `end` is the place behind them; a byte past the slice's end is passed over
 pub record Written (old new : List ℕ) (at end : ℕ) (text : List ℕ) : Type 0 where
   pub bytes : new ≡ sets old at text
   pub place : end ≡ at + length text
 
--- so many fields, an element buffer of so many words and so many words of work leave room for the table
-pub record Roomy (count slots words : ℕ) : Type 0 where
-  pub fields : count ≤ field_places
-  pub elements : slots ≤ element_room
-  pub work : word_room ≤ words
-
 -- what printing asks of the elements that a run left: where it gave its counts, each has four different vertices of the mesh
 abbrev pub Ready : Ran → List ℕ → Type 0
 Ready (Finished collapsed moved reconnected sizes) els =
     (4 * sizes.elements ≤ length els) × Proper sizes.vertices (map vertices_of (tets sizes.elements els))
 Ready (Stopped number sizes) els = Unit {0}
-
--- buffers of these lengths have room for what `plot` takes, and for its surface
-pub record PlotRoom (p q m e t w : ℕ) : Type 0 where
-  pub parameters : 3 * most_vertices ≤ p
-  pub points : 3 * most_vertices ≤ q
-  pub masks : most_vertices ≤ m
-  pub elements : 4 * most_elements ≤ e
-  pub surface : 12 * most_elements ≤ t
-  pub work : 36 * most_elements ≤ w

@@ -19,16 +19,6 @@ above_no_nan nan h = absurd (true≢false (sym h))
 above_no_nan (inf s) h = tt
 above_no_nan (fin s m e) h = tt
 
-pub above-any : (x y : Float) → lt x y ≡ true → T (not (is_nan y))
-unfolding lt is_nan
-above-any nan y h = absurd (true≢false (sym h))
-above-any (inf s) nan h = absurd (true≢false (sym h))
-above-any (inf s) (inf t) h = tt
-above-any (inf s) (fin t n d) h = tt
-above-any (fin s m e) nan h = absurd (true≢false (sym h))
-above-any (fin s m e) (inf t) h = tt
-above-any (fin s m e) (fin t n d) h = tt
-
 -- ---- with the sign's bit set nothing is above 0
 odd-negative : (q k : ℕ) → lt zero64 (odd 53 true q k 1074) ≡ false
 unfolding lt odd

@@ -9,4 +9,4 @@ overflow_add-result c = omega (arith, cap-lt c.args.p c.args.b)
 
 pub returns : goal.returns
 unfolding stratum
-returns c = rw c.cap.ensures
+returns c = rw (c.from.ensures, c.cap.ensures)

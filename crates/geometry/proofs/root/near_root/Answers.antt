@@ -1,10 +1,8 @@
 -- `near_root` meets its contract: by what `settled` says of its result, or by `root_digits`. Assumes nothing.
-use Rattle.std.proofs.Common.{◌≡◌, ℕ, ◌+◌, ◌*◌, ◌/◌, ◌%◌, ◌^◌, ◌<◌, ◌≤◌, sym, refl, subst, ⊎_elim, lt_of_lt_of_le, mod-eq_of_lt, arith, lit≤}
-use lib.Ieee.{binary64, of_bits}
+use Rattle.std.proofs.Common.{◌≡◌, ℕ, ◌+◌, ◌*◌, ◌/◌, ◌%◌, ◌^◌, ◌<◌, ◌≤◌, sym, subst, lt_of_lt_of_le, mod-eq_of_lt, arith, lit≤}
 use Rattle.geometry.specs.inside.Whole.{Halved}
-use Rattle.geometry.proofs.Laws.Root.Parts.{aligned, root-high}
+use Rattle.geometry.proofs.Laws.Root.Parts.{aligned}
 use Rattle.geometry.proofs.Laws.Root.Settle.{halved}
-use Rattle.geometry.proofs.Laws.Root.Value.{above-any}
 use Rattle.geometry.proofs.root.near_root.Goals as goal
 use Rattle.geometry.proofs.root.near_root.Goals.{Start}
 
@@ -29,37 +27,18 @@ module _ (c : Start) where
   back : (q : ℕ) → Halved (y % 2 ^ 64) q → Halved y q
   back q h = subst (λ (x : ℕ). Halved x q) kept h
 
-pub float_to_bits-z : goal.float_to_bits-z
-float_to_bits-z c = above-any (of_bits binary64 0) _ c.if-z.true
-
 -- 31 digits behind a leading one
 digits : (b : ℕ) → b / 2 ^ 21 % 2 ^ 31 + 2 ^ 31 < 2 ^ 32
 digits b = omega arith
 
-pub settled-q-requires : goal.settled-q-requires
+pub settled-requires : goal.settled-requires
 unfolding y
-settled-q-requires c = (above c.before.before, below c.before.before, digits _)
+settled-requires c = (above c.before.before, below c.before.before, digits _)
 
-no_zero : (q : ℕ) → 0 < q → q ≡ 0 → ⊥
-no_zero q h e = omega arith
-
-pub returns-then-q-gt0 : goal.returns-then-q-gt0
+pub returns-in-Some : goal.returns-in-Some
 unfolding y
-returns-then-q-gt0 c =
-    let s = c.before.before.before.before in
-    let q = c.settled-q.result in
-    back s q (⊎_elim (λ z. absurd (no_zero q c.if-q-gt0.true z)) (λ n. halved (y s % 2 ^ 64) q n) c.settled-q.ensures)
+returns-in-Some c = let s = c.before.before.before.before in back s c.in-Some.q (halved (y s % 2 ^ 64) c.in-Some.q c.in-Some.ensures)
 
 pub root_digits-requires : goal.root_digits-requires
 unfolding y
 root_digits-requires c = below c.before.before
-
-pub overflow_add-result : goal.overflow_add-result
-unfolding y
-overflow_add-result c =
-    let s = c.before.before.before in
-    omega (arith, root-high (y s % 2 ^ 64) c.root_digits.result (below s) c.root_digits.ensures.0)
-
-pub returns : goal.returns
-unfolding y
-returns c = back c.before.before.before ((c.root_digits.result + 1) / 2) (c.root_digits.result, c.root_digits.ensures, refl)

@@ -1,35 +1,58 @@
--- `root_digits` meets its contract: the invariant is `Step`, and the measure b. Assumes nothing.
-use Rattle.std.proofs.Common.{ℕ, ◌*◌, ◌/◌, ◌^◌, ◌<◌, sym, subst₂, arith}
-use Rattle.geometry.proofs.Laws.Root.Digits.{Step, start, one-digit, zero-digit, done}
+-- `root_digits` meets its contract: the invariant is `Step`, digit by digit. Assumes nothing.
+use Rattle.std.proofs.Common.{◌≡◌, ℕ, suc, ◌+◌, ◌-◌, ◌*◌, ◌/◌, ◌%◌, ◌^◌, ◌<◌, ◌≤◌, sym, ap, subst, subst₂, ◌∙◌, lt_of_le_of_lt, arith, lit<, pow_pos, pow_mono}
+use native.Mathlib.Nat.{pow-succ'}
+use Rattle.geometry.proofs.Laws.Root.Digits.{Step, start, one-digit, zero-digit}
 use Rattle.geometry.proofs.root.root_digits.Goals as goal
 use Rattle.geometry.proofs.root.root_digits.Goals.{then-t-rest, else-t-rest}
 
-pub loop-b-init : goal.loop-b-init
-loop-b-init c = start c.args.y c.requires
+twice : (k : ℕ) → 0 < k → 2 ^ k ≡ 2 * 2 ^ (k - 1)
+twice k h = ap (λ (z : ℕ). 2 ^ z) (before k h) ∙ pow-succ' 2 (k - 1)
+  where
+    before : (k : ℕ) → 0 < k → k ≡ suc (k - 1)
+    before k h = omega arith
 
-pub overflow_add-t : goal.overflow_add-t
-overflow_add-t c = omega arith
+above-one : (k : ℕ) → 0 < k → 1 < 2 ^ k
+above-one k h = more (2 ^ k) (2 ^ (k - 1)) (twice k h) (pow_pos (k - 1))
+  where
+    more : (b r : ℕ) → b ≡ 2 * r → 0 < r → 1 < b
+    more b r e h = omega arith
 
-pub overflow_add-s : goal.overflow_add-s
-overflow_add-s c = omega arith
+-- the digit's weight, as the shift gives it
+abbrev weight : ℕ → ℕ
+weight k = 1 * 2 ^ (k - 1) % 2 ^ 64
 
-pub overflow_mul-rest : goal.overflow_mul-rest
-overflow_mul-rest c = elim c.if-t-rest.branch [ then-t-rest w ↦ omega arith | else-t-rest w ↦ omega arith ]
+module _ (k : ℕ) (h : 0 < k) (l : k ≤ 54) where
+  weight-is : weight k ≡ 2 ^ (k - 1)
+  weight-is = once (2 ^ (k - 1)) (lt_of_le_of_lt (pow_mono {i = k - 1} {j = 53} (omega arith)) (lit< {m = 2 ^ 53} {n = 2 ^ 64} tt))
+    where
+      once : (r : ℕ) → r < 2 ^ 64 → 1 * r % 2 ^ 64 ≡ r
+      once r h = omega arith
 
-pub loop-b-smaller : goal.loop-b-smaller
-loop-b-smaller c = omega arith
+  half-is : 2 ^ k / 2 ≡ weight k
+  half-is = cut (2 ^ k) (2 ^ (k - 1)) (twice k h) ∙ sym weight-is
+    where
+      cut : (b r : ℕ) → b ≡ 2 * r → b / 2 ≡ r
+      cut b r e = omega arith
 
-pub loop-b-preserved : goal.loop-b-preserved
-loop-b-preserved c =
+pub loop-k-init : goal.loop-k-init
+loop-k-init c = start c.args.y c.requires
+
+pub loop-k-preserved : goal.loop-k-preserved
+loop-k-preserved c =
     let X = c.args.y * 2 ^ 53 in
-    let rest = c.loop-b.rest in
-    let s = c.loop-b.s in
-    let b = c.loop-b.b in
-    let more : 1 < b = omega arith in
+    let rest = c.loop-k.rest in
+    let s = c.loop-k.s in
+    let k = c.loop-k.k in
+    let r = weight k in
+    let r-is : 2 ^ k / 2 ≡ r = half-is k c.loop-k-test.true c.loop-k.auto.k in
+    let last : r ≡ 2 ^ (k - 1) = weight-is k c.loop-k-test.true c.loop-k.auto.k in
+    let more = above-one k c.loop-k-test.true in
     elim c.if-t-rest.branch [
-      | then-t-rest w ↦ subst₂ (λ (y z : ℕ). Step X (y * 2) z (b / 2)) (sym w.rest-is) (sym w.s-is) (one-digit X rest s b c.loop-b.invariant more w.if-t-rest.true)
-      | else-t-rest w ↦ subst₂ (λ (y z : ℕ). Step X (y * 2) z (b / 2)) (sym w.rest-is) (sym w.s-is) (zero-digit X rest s b c.loop-b.invariant more w.if-t-rest.false)
+      | then-t-rest w ↦
+          let d = one-digit X rest s (2 ^ k) c.loop-k.invariant more (subst (λ (u : ℕ). s + u ≤ rest) (sym r-is) w.if-t-rest.true) in
+          let e : Step X ((rest - (s + r)) * 2) (s + r + r) r = subst (λ (u : ℕ). Step X ((rest - (s + u)) * 2) (s + u + u) u) r-is d in
+          subst₂ (λ (y z : ℕ). Step X (y * 2) z (2 ^ (k - 1))) (sym w.rest-is) (sym w.s-is) (subst (Step X ((rest - (s + r)) * 2) (s + r + r)) last e)
+      | else-t-rest w ↦
+          let d = zero-digit X rest s (2 ^ k) c.loop-k.invariant more (subst (λ (u : ℕ). rest < s + u) (sym r-is) w.if-t-rest.false) in
+          subst₂ (λ (y z : ℕ). Step X (y * 2) z (2 ^ (k - 1))) (sym w.rest-is) (sym w.s-is) (subst (Step X (rest * 2) s) (r-is ∙ last) d)
     ]
-
-pub returns : goal.returns
-returns c = done (c.args.y * 2 ^ 53) c.loop-b.rest c.loop-b.s c.loop-b.b c.loop-b.invariant (omega arith)

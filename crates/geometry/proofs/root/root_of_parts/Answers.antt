@@ -9,9 +9,6 @@ use Rattle.geometry.proofs.root.root_of_parts.Goals.{After-near_root-q}
 bit : (a : ℕ) → a % 2 < 2
 bit a = omega arith
 
-pub near_root-q-requires : goal.near_root-q-requires
-near_root-q-requires c = (c.requires.0, c.requires.1, bit c.args.a, c.requires.4)
-
 -- what `near_root` returns is half of a root, rounded up
 root-lt : (c : After-near_root-q) → c.near_root-q.ensures.0 < 2 ^ 54
 root-lt c =
@@ -23,9 +20,6 @@ result-le c = half c.near_root-q.result c.near_root-q.ensures.0 c.near_root-q.en
   where
     half : (q s : ℕ) → q ≡ (s + 1) / 2 → s < 2 ^ 54 → q ≤ 2 ^ 53
     half q s e h = omega arith
-
-pub overflow_add-result : goal.overflow_add-result
-overflow_add-result c = omega (arith, result-le c)
 
 pub float_from_bits-result : goal.float_from_bits-result
 float_from_bits-result c = no_nan _ (omega (arith, result-le c))

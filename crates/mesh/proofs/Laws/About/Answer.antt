@@ -44,6 +44,8 @@ slots-none x s = refl
 
 -- the slots got stand at the area's front, n of them, and with those of the members left are all
 pub record Putting (x : Index) (all s₀ s : List ℕ) (step p left n : ℕ) : Type 0 where
+  pub laid : Laid x (length s₀)
+  pub long : length s ≡ length s₀
   pub got : List ℕ
   pub is : s ≡ written s₀ x.area got
   pub count : n ≡ length got
@@ -55,14 +57,11 @@ pub put-start : (x : Index) (s : List ℕ) (from count step : ℕ) → about_roo
     → Putting x (slots_of x s (members count from step s)) s s step from count 0
 put-start x s from count step h =
     let r = about-room x s from count step h in
-    record { got = []; is = sym (written_none s x.area); count = refl; rest = refl; fits = let a = r.1 in omega arith; clear = r.2 }
+    record { laid = r.0; long = refl; got = []; is = sym (written_none s x.area); count = refl; rest = refl; fits = let a = r.1 in omega arith; clear = r.2 }
 
-module _ {x : Index} {all s₀ s : List ℕ} {step p left n : ℕ} (l : Laid x (length s₀)) (g : Putting x all s₀ s step p left n) where
+module _ {x : Index} {all s₀ s : List ℕ} {step p left n : ℕ} (g : Putting x all s₀ s step p left n) where
   room-got : x.area + length g.got ≤ length s₀
   room-got = let a = g.fits in let b = g.count in omega arith
-
-  pub put-long : length s ≡ length s₀
-  put-long = ap length g.is ∙ length-written s₀ x.area g.got room-got
 
   read : (j : ℕ) → j < x.area → word_at s j ≡ word_at s₀ j
   read j h = ap (λ (u : List ℕ). word_at u j) g.is ∙ written_below s₀ x.area g.got room-got j h
@@ -84,7 +83,7 @@ module _ {x : Index} {all s₀ s : List ℕ} {step p left n : ℕ} (l : Laid x (
     member : v ≡ word_at s₀ p
     member =
         ev
-        ∙ ⊎_elim (read p) (λ h. get_or-eq_default s 0 (omega (arith, put-long)) ∙ sym (get_or-eq_default s₀ 0 h)) first
+        ∙ ⊎_elim (read p) (λ h. get_or-eq_default s 0 (omega (arith, g.long)) ∙ sym (get_or-eq_default s₀ 0 h)) first
 
     these : members left p step s₀ ≡ v ∷ members (left - 1) (p + step) step s₀
     these = members-first left p step s₀ some ∙ ap (λ (u : ℕ). u ∷ members (left - 1) (p + step) step s₀) (sym member)
@@ -95,14 +94,14 @@ module _ {x : Index} {all s₀ s : List ℕ} {step p left n : ℕ} (l : Laid x (
     -- room for its slots
     pub put-free : Free x s (x.area + n) (chain_length x s v)
     put-free = record {
-      laid = subst (Laid x) (sym put-long) l;
+      laid = subst (Laid x) (sym g.long) g.laid;
       behind = omega arith;
-      fits = let a = g.fits in omega (arith, sum, put-long, length-kept x s₀ s l (λ j h k. read j k) v);
+      fits = let a = g.fits in omega (arith, sum, g.long, length-kept x s₀ s g.laid (λ j h k. read j k) v);
     }
 
     module _ (t : List ℕ) (r : ℕ) (er : r ≡ length (slots_met x s v)) (et : t ≡ written s (x.area + n) (slots_met x s v)) where
       gives : slots_met x s v ≡ slots_met x s₀ v
-      gives = slots_same x s₀ s v (length s₀) l read
+      gives = slots_same x s₀ s v (length s₀) g.laid read
 
       count-more : r ≡ length (slots_met x s₀ v)
       count-more = er ∙ ap length gives
@@ -119,6 +118,8 @@ module _ {x : Index} {all s₀ s : List ℕ} {step p left n : ℕ} (l : Laid x (
       -- a turn
       pub put-turn : (m q : ℕ) → m ≡ length s₀ → Next m (p + step) q → Putting x all s₀ t step q (left - 1) (n + r)
       put-turn m q em nx = record {
+        laid = g.laid;
+        long = ap length et ∙ length-written s (x.area + n) (slots_met x s v) (omega (arith, put_count, er, g.long)) ∙ g.long;
         got = g.got ++ slots_met x s₀ v;
         is = is-more;
         count = omega (arith, g.count, count-more, length-append g.got (slots_met x s₀ v));

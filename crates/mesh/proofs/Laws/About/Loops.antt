@@ -10,7 +10,7 @@ use Rattle.mesh.specs.inside.Star.{gone_tet, gone_word, Laid, written}
 use Rattle.mesh.specs.inside.About.{slot_at, words_of, space_for, elements_in, live, live_room, live_list, live_in}
 use Rattle.mesh.proofs.Laws.Bools.{and_intro, and_left, and_right}
 use Rattle.mesh.proofs.Laws.Star.Written.{written_none}
-use Rattle.mesh.proofs.Laws.About.Copies.{space-is, space-yes, paste-element, slot_kept, slot-element, Copying, copy_start, copy-long, copy_read, copy-room, copy-turn, copy-end, each_map, each_keep, keep_one}
+use Rattle.mesh.proofs.Laws.About.Copies.{space-is, space-yes, paste-element, slot_kept, slot-element, Copying, copy_start, copy-long, copy_read, copy-turn, copy-end, each_map, each_keep, keep_one}
 use Rattle.mesh.proofs.Laws.Intake.Reads.{length-tets}
 
 -- ---- the elements of listed slots
@@ -19,57 +19,54 @@ pub elements-none : (x : Index) (n : ℕ) (s : List ℕ) → space_for x (length
 unfolding elements_in
 elements-none x n s e = rw e refl
 
--- what holds at the head of the loop
-abbrev pub Listing : Index → ℕ → List ℕ → List ℕ → ℕ → Type 0
-Listing x n s₀ s i = Copying (λ e. slot_at x s₀ e ∷ []) (x.area + n) (take n (drop x.area s₀)) s₀ s i i
+-- what holds at the head of the loop: the elements of the first i slots stand behind the list
+pub record Listing (x : Index) (n : ℕ) (s₀ s : List ℕ) (i : ℕ) : Type 0 where
+  pub room : space_for x (length s₀) n 5 ≡ true
+  pub laid : Laid x (length s₀)
+  pub fit : x.area + n * 5 ≤ length s₀
+  pub long : length s ≡ length s₀
+  pub copied : Copying (λ e. slot_at x s₀ e ∷ []) (x.area + n) (take n (drop x.area s₀)) s₀ s i i
 
-pub listing_start : (x : Index) (n : ℕ) (s : List ℕ) → Listing x n s s 0
-listing_start x n s = copy_start (λ e. slot_at x s e ∷ []) (x.area + n) (take n (drop x.area s)) s
+pub listing-start : (x : Index) (n : ℕ) (s : List ℕ) → space_for x (length s) n 5 ≡ true → Listing x n s s 0
+listing-start x n s r =
+    let f = space-is x (length s) n 5 r in
+    record { room = r; laid = f.0; fit = f.1; long = refl; copied = copy_start (λ e. slot_at x s e ∷ []) (x.area + n) (take n (drop x.area s)) s }
 
-module _ (x : Index) (n : ℕ) (s₀ : List ℕ) (r : space_for x (length s₀) n 5 ≡ true) where
-  l : Laid x (length s₀)
-  l = (space-is x (length s₀) n 5 r).0
-
-  fit : x.area + n * 5 ≤ length s₀
-  fit = (space-is x (length s₀) n 5 r).1
-
-  pub listing-few : x.room ≤ 131072
-  listing-few = l.few
-
-  pub listing-fit : x.area + n * 5 ≤ length s₀
-  listing-fit = fit
-
+module _ {x : Index} {n : ℕ} {s₀ s : List ℕ} {i : ℕ} (g : Listing x n s₀ s i) where
   count : length (take n (drop x.area s₀)) ≡ n
-  count = length-take-le n (drop x.area s₀) (omega (arith, fit, length-drop x.area s₀))
+  count = length-take-le n (drop x.area s₀) (omega (arith, g.fit, length-drop x.area s₀))
 
-  room : x.area + n + 4 * length (take n (drop x.area s₀)) ≤ length s₀
-  room = omega (arith, fit, count)
+  fits : x.area + n + 4 * length (take n (drop x.area s₀)) ≤ length s₀
+  fits = omega (arith, g.fit, count)
 
-  module _ {s : List ℕ} {i : ℕ} (g : Listing x n s₀ s i) where
-    pub listing-long : length s ≡ length s₀
-    listing-long = copy-long room g
+  pub listing-turn : i < n → (v : ℕ) → v ≡ word_at s (x.area + i) → (ws : List ℕ) → ws ≡ vertices_of (slot_at x s v) → (s' : List ℕ) → s' ≡ paste s (x.area + n + 4 * i) ws 4
+      → Listing x n s₀ s' (i + 1)
+  listing-turn h v ev ws ew s' es = record { room = g.room; laid = g.laid; fit = g.fit; long = copy-long fits turned; copied = turned }
+    where
+      number : v ≡ get_or (take n (drop x.area s₀)) i 0
+      number =
+          ev ∙ copy_read fits g.copied (x.area + i) (omega arith)
+          ∙ sym (get_or-take n (drop x.area s₀) i 0 h ∙ get_or-drop x.area s₀ i 0)
 
-    pub listing-turn : i < n → (v : ℕ) → v ≡ word_at s (x.area + i) → (t : Tet) → t ≡ slot_at x s v → (s' : List ℕ) → s' ≡ paste s (x.area + n + 4 * i) (vertices_of t) 4
-        → Listing x n s₀ s' (i + 1)
-    listing-turn h v ev t et s' es = copy-turn room g (omega (arith, count)) 0 1 s' (omega arith) refl put
-      where
-        number : v ≡ get_or (take n (drop x.area s₀)) i 0
-        number =
-            ev ∙ copy_read room g (x.area + i) (omega arith)
-            ∙ sym (get_or-take n (drop x.area s₀) i 0 h ∙ get_or-drop x.area s₀ i 0)
+      element : slot_at x s v ≡ slot_at x s₀ (get_or (take n (drop x.area s₀)) i 0)
+      element = slot_kept x s₀ s g.laid (λ j k. copy_read fits g.copied j (omega arith)) v ∙ ap (slot_at x s₀) number
 
-        element : t ≡ slot_at x s₀ (get_or (take n (drop x.area s₀)) i 0)
-        element = et ∙ slot_kept x s₀ s l (λ j k. copy_read room g j (omega arith)) v ∙ ap (slot_at x s₀) number
+      put : s' ≡ written s (x.area + n + 4 * i) (words_of (slot_at x s₀ (get_or (take n (drop x.area s₀)) i 0) ∷ []))
+      put =
+          es
+          ∙ ap (λ (us : List ℕ). paste s (x.area + n + 4 * i) us 4) ew
+          ∙ paste-element s (x.area + n + 4 * i) (slot_at x s v)
+          ∙ ap (λ (u : Tet). written s (x.area + n + 4 * i) (words_of (u ∷ []))) element
 
-        put : s' ≡ written s (x.area + n + 4 * i) (words_of (slot_at x s₀ (get_or (take n (drop x.area s₀)) i 0) ∷ []))
-        put = es ∙ paste-element s (x.area + n + 4 * i) t ∙ ap (λ (u : Tet). written s (x.area + n + 4 * i) (words_of (u ∷ []))) element
+      turned : Copying (λ e. slot_at x s₀ e ∷ []) (x.area + n) (take n (drop x.area s₀)) s₀ s' (i + 1) (i + 1)
+      turned = copy-turn fits g.copied (omega (arith, count)) 0 1 s' (omega arith) refl put
 
-    pub listing-end : n ≤ i → s ≡ elements_in x n s₀
-    unfolding elements_in
-    listing-end h =
-        (copy-end room g (omega (arith, count))).1
-        ∙ ap (λ (ts : List Tet). written s₀ (x.area + n) (words_of ts)) (each_map (slot_at x s₀) (take n (drop x.area s₀)))
-        ∙ rw r refl
+  pub listing-end : n ≤ i → s ≡ elements_in x n s₀
+  unfolding elements_in
+  listing-end h =
+      (copy-end fits g.copied (omega (arith, count))).1
+      ∙ ap (λ (ts : List Tet). written s₀ (x.area + n) (words_of ts)) (each_map (slot_at x s₀) (take n (drop x.area s₀)))
+      ∙ rw g.room refl
 
 -- ---- the live elements
 
@@ -88,61 +85,60 @@ unfolding live_list live_in
 live-none x n s e = (rw e refl, rw e refl)
 
 -- one element
-module _ (s : List ℕ) (k : ℕ) (t u : Tet) (e : t ≡ u) where
-  pub gone-put : t.a ≡ gone_word → (0 ≡ length (keep live (u ∷ []))) × (s ≡ written s k (words_of (keep live (u ∷ []))))
+module _ (s : List ℕ) (k : ℕ) (ws : List ℕ) (t : Tet) (e : ws ≡ vertices_of t) where
+  first : (d : ℕ) → get_or ws 0 d ≡ t.a
+  first d = ap (λ (us : List ℕ). get_or us 0 d) e
+
+  pub gone-put : get_or ws 0 0 ≡ gone_word → (0 ≡ length (keep live (t ∷ []))) × (s ≡ written s k (words_of (keep live (t ∷ []))))
   unfolding flat
   gone-put h =
-      let q : keep live (u ∷ []) ≡ [] = ap (λ (y : Tet). keep live (y ∷ [])) (sym e) ∙ rw (eq-eqb t.a gone_word h) refl in
+      let q : keep live (t ∷ []) ≡ [] = rw (eq-eqb t.a gone_word (sym (first 0) ∙ h)) refl in
       (sym (ap length q), sym (ap (λ (ts : List Tet). written s k (words_of ts)) q ∙ written_none s k))
 
-  pub live-put : (t.a ≡ gone_word → ⊥) → (s' : List ℕ) → s' ≡ paste s k (vertices_of t) 4
-      → (1 ≡ length (keep live (u ∷ []))) × (s' ≡ written s k (words_of (keep live (u ∷ []))))
+  pub live-put : (get_or ws 0 0 ≡ gone_word → ⊥) → (s' : List ℕ) → s' ≡ paste s k ws 4
+      → (1 ≡ length (keep live (t ∷ []))) × (s' ≡ written s k (words_of (keep live (t ∷ []))))
   live-put h s' es =
-      let q : keep live (u ∷ []) ≡ t ∷ [] = ap (λ (y : Tet). keep live (y ∷ [])) (sym e) ∙ rw (ne_eqb t.a gone_word h) refl in
-      (sym (ap length q), es ∙ paste-element s k t ∙ sym (ap (λ (ts : List Tet). written s k (words_of ts)) q))
+      let q : keep live (t ∷ []) ≡ t ∷ [] = rw (ne_eqb t.a gone_word (λ g. h (first 0 ∙ g))) refl in
+      (sym (ap length q), es ∙ ap (λ (us : List ℕ). paste s k us 4) e ∙ paste-element s k t ∙ sym (ap (λ (ts : List Tet). written s k (words_of ts)) q))
 
--- what holds at the head of the loop
-abbrev pub Living : Index → ℕ → List ℕ → List ℕ → ℕ → ℕ → Type 0
-Living x n s₀ s e k = Copying (λ t. keep live (t ∷ [])) x.area (tets n (drop x.slots s₀)) s₀ s e k
+-- what holds at the head of the loop: the live ones of the first e slots stand in the area
+pub record Living (x : Index) (n : ℕ) (s₀ s : List ℕ) (e k : ℕ) : Type 0 where
+  pub room : live_room x (length s₀) n ≡ true
+  pub laid : Laid x (length s₀)
+  pub slots : n ≤ x.room
+  pub fit : x.area + n * 4 ≤ length s₀
+  pub long : length s ≡ length s₀
+  pub few : k ≤ e
+  pub copied : Copying (λ t. keep live (t ∷ [])) x.area (tets n (drop x.slots s₀)) s₀ s e k
 
-pub living-start : (x : Index) (n : ℕ) (s : List ℕ) → Living x n s s 0 0
-living-start x n s = copy_start (λ t. keep live (t ∷ [])) x.area (tets n (drop x.slots s)) s
+pub living-start : (x : Index) (n : ℕ) (s : List ℕ) → live_room x (length s) n ≡ true → Living x n s s 0 0
+living-start x n s r =
+    let f = live-is x (length s) n r in
+    record { room = r; laid = f.0; slots = f.1; fit = f.2; long = refl; few = omega arith; copied = copy_start (λ t. keep live (t ∷ [])) x.area (tets n (drop x.slots s)) s }
 
-module _ (x : Index) (n : ℕ) (s₀ : List ℕ) (r : live_room x (length s₀) n ≡ true) where
-  ll : Laid x (length s₀)
-  ll = (live-is x (length s₀) n r).0
-
-  slots : n ≤ x.room
-  slots = (live-is x (length s₀) n r).1
-
+module _ {x : Index} {n : ℕ} {s₀ s : List ℕ} {e k : ℕ} (g : Living x n s₀ s e k) where
   many : length (tets n (drop x.slots s₀)) ≡ n
   many = length-tets n (drop x.slots s₀)
 
   space : x.area + 4 * length (tets n (drop x.slots s₀)) ≤ length s₀
-  space = omega (arith, many, (live-is x (length s₀) n r).2)
+  space = omega (arith, many, g.fit)
 
-  module _ {s : List ℕ} {e k : ℕ} (g : Living x n s₀ s e k) where
-    pub living-long : length s ≡ length s₀
-    living-long = copy-long space g
+  pub living-turn : e < n → (i : ℕ) (s' : List ℕ) → i ≡ length (keep live (slot_at x s e ∷ [])) → s' ≡ written s (x.area + 4 * k) (words_of (keep live (slot_at x s e ∷ [])))
+      → Living x n s₀ s' (e + 1) (k + i)
+  living-turn h i s' ei es =
+      record { room = g.room; laid = g.laid; slots = g.slots; fit = g.fit; long = copy-long space turned; few = turned.few; copied = turned }
+    where
+      element : slot_at x s e ≡ get_or (tets n (drop x.slots s₀)) e gone_tet
+      element = slot_kept x s₀ s g.laid (λ j q. copy_read space g.copied j q) e ∙ sym (slot-element x s₀ n e gone_tet g.slots h)
 
-    pub living-room : e < n → (x.room ≤ 131072) × (x.area + 4 * k + 4 ≤ length s)
-    living-room h = (ll.few, copy-room space g (omega (arith, many)))
+      turned : Copying (λ t. keep live (t ∷ [])) x.area (tets n (drop x.slots s₀)) s₀ s' (e + 1) (k + i)
+      turned =
+          copy-turn space g.copied (omega (arith, many)) gone_tet i s' (keep_one live (get_or (tets n (drop x.slots s₀)) e gone_tet))
+          (ei ∙ ap (λ (t : Tet). length (keep live (t ∷ []))) element) (es ∙ ap (λ (t : Tet). written s (x.area + 4 * k) (words_of (keep live (t ∷ [])))) element)
 
-    pub living-turn : e < n → (i : ℕ) (s' : List ℕ) → i ≡ length (keep live (slot_at x s e ∷ [])) → s' ≡ written s (x.area + 4 * k) (words_of (keep live (slot_at x s e ∷ [])))
-        → Living x n s₀ s' (e + 1) (k + i)
-    living-turn h i s' ei es =
-        copy-turn space g (omega (arith, many)) gone_tet i s' (keep_one live (get_or (tets n (drop x.slots s₀)) e gone_tet))
-        (ei ∙ ap (λ (t : Tet). length (keep live (t ∷ []))) element) (es ∙ ap (λ (t : Tet). written s (x.area + 4 * k) (words_of (keep live (t ∷ [])))) element)
-      where
-        element : slot_at x s e ≡ get_or (tets n (drop x.slots s₀)) e gone_tet
-        element = slot_kept x s₀ s ll (λ j q. copy_read space g j q) e ∙ sym (slot-element x s₀ n e gone_tet slots h)
-
-    pub living-few : e < n → (i : ℕ) → i ≡ length (keep live (slot_at x s e ∷ [])) → k + i ≤ n
-    living-few h i ei = let a = g.few in omega (arith, keep_one live (slot_at x s e))
-
-    pub living-end : n ≤ e → (k ≡ length (live_list x n s₀)) × (s ≡ live_in x n s₀)
-    unfolding live_list live_in
-    living-end h =
-        let q = copy-end space g (omega (arith, many)) in
-        let w = each_keep live (tets n (drop x.slots s₀)) in
-        (q.0 ∙ ap length w ∙ rw r refl, q.1 ∙ ap (λ (ts : List Tet). written s₀ x.area (words_of ts)) w ∙ rw r refl)
+  pub living-end : n ≤ e → (k ≡ length (live_list x n s₀)) × (s ≡ live_in x n s₀)
+  unfolding live_list live_in
+  living-end h =
+      let q = copy-end space g.copied (omega (arith, many)) in
+      let w = each_keep live (tets n (drop x.slots s₀)) in
+      (q.0 ∙ ap length w ∙ rw g.room refl, q.1 ∙ ap (λ (ts : List Tet). written s₀ x.area (words_of ts)) w ∙ rw g.room refl)

@@ -134,20 +134,21 @@ module _ (x : Index) (s : List ℕ) where
 
 -- the entries of the members before, n of them, and of those left are all; as many have room
 pub record Summing (x : Index) (s : List ℕ) (from count step p left n : ℕ) : Type 0 where
+  pub tested : laid x (length s) ≡ true
   pub sum : n + entries_of x s (members left p step s) ≡ entries_of x s (members count from step s)
   pub clear : clear_of x.area (length s) left p step ≡ clear_of x.area (length s) count from step
   pub few : n ≤ (length s - x.area) / 2
 
-pub sum-start : (x : Index) (s : List ℕ) (from count step : ℕ) → Summing x s from count step from count 0
-sum-start x s from count step = record { sum = omega arith; clear = refl; few = omega arith }
+pub sum-start : (x : Index) (s : List ℕ) (from count step : ℕ) → laid x (length s) ≡ true → Summing x s from count step from count 0
+sum-start x s from count step e = record { tested = e; sum = omega arith; clear = refl; few = omega arith }
 
 pub about-no : (x : Index) (s : List ℕ) (from count step : ℕ) → laid x (length s) ≡ false → false ≡ about_room x s from count step
 unfolding about_room room_for
 about-no x s from count step e = simp e
 
-module _ {x : Index} {s : List ℕ} {from count step p left n : ℕ} (e : laid x (length s) ≡ true) (g : Summing x s from count step p left n) where
+module _ {x : Index} {s : List ℕ} {from count step p left n : ℕ} (g : Summing x s from count step p left n) where
   l : Laid x (length s)
-  l = laid-is x (length s) e
+  l = laid-is x (length s) g.tested
 
   end : x.area ≤ length s
   end = l.end
@@ -186,11 +187,12 @@ module _ {x : Index} {s : List ℕ} {from count step p left n : ℕ} (e : laid x
       sum-full h =
           let T = entries_of x s (members count from step s) in
           let b : length s < x.area + (T + T) = let a = more in let d = end in omega arith in
-          simp (e, lt-leb (x.area + (T + T)) (length s) b)
+          simp (g.tested, lt-leb (x.area + (T + T)) (length s) b)
 
       -- a turn
       pub sum-turn : n + i ≤ (length s - x.area) / 2 → (q : ℕ) → Next (length s) (p + step) q → Summing x s from count step q (left - 1) (n + i)
       sum-turn h q nx = record {
+        tested = g.tested;
         sum = ap (λ (vs : List ℕ). n + i + entries_of x s vs) (members-next (left - 1) (p + step) q step s nx) ∙ more;
         clear =
             clear_next x.area (length s) (left - 1) (p + step) q step nx

@@ -1,9 +1,7 @@
 -- The rows of simplices in an area: listed behind the elements, they are those of the definition, and they are counted and cleared.
 -- Assumes nothing.
-use Rattle.std.proofs.Common.{◌≡◌, ℕ, zero, suc, ◌+◌, ◌-◌, ◌*◌, ◌/◌, ◌%◌, ◌<◌, ◌≤◌, true, false, ltb, leb, List, [], ◌∷◌, ◌++◌, map, length, get_or, take, drop, sym, refl, ap, ◌∙◌, ap₂, append_assoc, le_refl, arith, length-drop, take-take, length-take-le, get_or-drop, get_or-take, drop-drop, take_at, lt-ltb, le-leb, leb-true}
+use Rattle.std.proofs.Common.{◌≡◌, ℕ, zero, suc, ◌+◌, ◌-◌, ◌*◌, ◌/◌, ◌%◌, ◌<◌, ◌≤◌, true, false, ltb, leb, List, [], ◌∷◌, ◌++◌, map, length, get_or, take, drop, sym, refl, ap, ◌∙◌, ap₂, le_refl, arith, length-drop, take-take, get_or-drop, get_or-take, drop-drop, lt-ltb, le-leb}
 use mathlib.Core.List.{map-append}
-use lib.Seq.{paste, length-paste}
-use borrow.Author.Tests.{lt-leb}
 use borrow.Rule.Slice.PartMut.{mid_of, put_mid}
 use Rattle.mesh.specs.declared.element.Tet.{Tet}
 use Rattle.mesh.specs.Words.{word_at, zero_words, numbers, flat}
@@ -12,16 +10,15 @@ use Rattle.mesh.specs.inside.Rows.{rows, eq_row, fit_rows, sorted_area, unique_r
 use Rattle.mesh.specs.Element.{tets, face_of, key_of, corners_of, vertices_of}
 use Rattle.mesh.specs.inside.Intake.{tet_at}
 use Rattle.mesh.specs.inside.Manifold.{filled, KeptBelow}
-use Rattle.mesh.proofs.Laws.Bools.{and_intro, and_left, and_right}
+use Rattle.mesh.proofs.Laws.Bools.{and_intro}
 use Rattle.mesh.proofs.Laws.NumbersFrom.{numbers-split}
-use Rattle.mesh.proofs.Laws.Parts.{paste-part, tail-mid, tail-put}
-use Rattle.mesh.proofs.Laws.Rows.{rows_words}
+use Rattle.mesh.proofs.Laws.Parts.{tail-mid, tail-put}
 use Rattle.mesh.proofs.Laws.Keeping.{unique-is, length-unique-area}
 use Rattle.mesh.proofs.Laws.Intake.Reads.{length-tets, tets-same}
-use Rattle.mesh.proofs.Laws.Manifold.Fill.{fill-kept, filled-rows}
+use Rattle.mesh.proofs.Laws.Manifold.Fill.{fill-kept}
 use Rattle.mesh.proofs.Laws.Manifold.Growth.{kept-both}
 use Rattle.mesh.proofs.Laws.Manifold.Steps.{word_below, put-kept, sort-kept, sort-from-rows}
-use Rattle.mesh.specs.inside.Euler.{ends_at, rising_row, vertex_rows, edge_rows, triangle_rows, spread, different, counts_of, count_fits, Counted, counted_in, edge_row_at, triangle_row_at}
+use Rattle.mesh.specs.inside.Euler.{ends_at, rising_row, vertex_rows, edge_rows, triangle_rows, spread, different, counts_of, count_fits, Counted, counted_in, vertex_row_at, edge_row_at, triangle_row_at}
 
 -- ---- elements that are kept
 
@@ -69,6 +66,16 @@ module _ (s : List ℕ) (row : ℕ → List ℕ) (c : ℕ) (f : Tet → List (Li
   pub spread-numbers : (n : ℕ) → map row (numbers 0 (c * n)) ≡ spread f (tets n s)
   spread-numbers n = let e : 0 ≡ c * 0 = omega arith in ap (λ (u : ℕ). map row (numbers u (c * n))) e ∙ spread-from n 0
 
+pub vertex-rows : (s : List ℕ) (n : ℕ) → map (vertex_row_at s) (numbers 0 (4 * n)) ≡ spread vertex_rows (tets n s)
+unfolding numbers vertex_row_at tet_at
+vertex-rows s n = spread-numbers s (vertex_row_at s) 4 vertex_rows four n
+  where
+    at : (j k : ℕ) → j ≡ k → vertex_row_at s j ≡ word_at s k ∷ []
+    at j k e = ap (λ (u : ℕ). word_at s u ∷ []) e
+
+    four : (i : ℕ) → map (vertex_row_at s) (numbers (4 * i) 4) ≡ vertex_rows (tet_at s i)
+    four i = rw (at (4 * i + 1 + 1) (4 * i + 2) (omega arith), at (4 * i + 1 + 1 + 1) (4 * i + 3) (omega arith)) refl
+
 pub edge-rows : (s : List ℕ) (n : ℕ) → map (edge_row_at s) (numbers 0 (6 * n)) ≡ spread edge_rows (tets n s)
 unfolding numbers edge_row_at
 edge-rows s n = spread-numbers s (edge_row_at s) 6 edge_rows six n
@@ -103,35 +110,14 @@ triangle-rows s n = spread-numbers s (triangle_row_at s) 4 triangle_rows four n
           at i (4 * i + 1 + 1 + 1) 3 (omega arith) (omega arith),
         ) refl
 
--- rows of one word are the words
-vertex-rows : (n : ℕ) (s : List ℕ) → 4 * n ≤ length s → rows 1 (4 * n) s ≡ spread vertex_rows (tets n s)
-unfolding spread tets rows
-vertex-rows zero s h = refl
-vertex-rows (suc n) [] h = absurd (short n h)
-  where
-    short : (n : ℕ) → 4 * suc n ≤ 0 → ⊥
-    short n h = omega arith
-vertex-rows (suc n) (a ∷ []) h = absurd (short n h)
-  where
-    short : (n : ℕ) → 4 * suc n ≤ 1 → ⊥
-    short n h = omega arith
-vertex-rows (suc n) (a ∷ b ∷ []) h = absurd (short n h)
-  where
-    short : (n : ℕ) → 4 * suc n ≤ 2 → ⊥
-    short n h = omega arith
-vertex-rows (suc n) (a ∷ b ∷ c ∷ []) h = absurd (short n h)
-  where
-    short : (n : ℕ) → 4 * suc n ≤ 3 → ⊥
-    short n h = omega arith
-vertex-rows (suc n) (a ∷ b ∷ c ∷ d ∷ s) h =
-    let e : 4 * suc n ≡ suc (suc (suc (suc (4 * n)))) = omega arith in
-    ap (λ (u : ℕ). rows 1 u (a ∷ b ∷ c ∷ d ∷ s)) e
-    ∙ ap (λ (l : List (List ℕ)). (a ∷ []) ∷ (b ∷ []) ∷ (c ∷ []) ∷ (d ∷ []) ∷ l) (vertex-rows n s (omega arith))
-
 -- ---- rows listed
 
 -- the elements tell the rows of their edges and triangles
 module _ (s : List ℕ) (n j : ℕ) where
+  pub vertex_row-told : j < 4 * n → vertex_row_at (take (4 * n) s) j ≡ vertex_row_at s j
+  unfolding vertex_row_at
+  vertex_row-told h = ap (λ (v : ℕ). v ∷ []) (get_or-take (4 * n) s j 0 h)
+
   pub edge_row-told : j < 6 * n → edge_row_at (take (4 * n) s) j ≡ edge_row_at s j
   unfolding edge_row_at
   edge_row-told h = ap (λ (t : Tet). rising_row (ends_at t (j % 6))) (tet-kept s (take (4 * n) s) n (j / 6) (take-take (4 * n) (4 * n) s (le_refl (4 * n))) (omega arith))
@@ -170,59 +156,12 @@ module _ (a n w : ℕ) (s₀ s₁ : List ℕ) (h : 0 < w) (room : a + (n + n) * 
       (ap length e ∙ length-unique-area n w (mid_of a (length s₁ - a) s₁) ∙ ap length (tail-mid a s₁) ∙ length-drop a s₁)
       (f ∙ tail-put a s₁ p))
 
--- ---- the three sizes
-
-module _ (n : ℕ) (s₀ : List ℕ) (room : 28 * n ≤ length s₀) (s₁ : List ℕ) where
-  pub vertices-kept : s₁ ≡ paste s₀ (4 * n) (drop 0 s₀) (4 * n) → KeptBelow (4 * n) s₀ s₁
-  vertices-kept e = record {
-    front = ap (take (4 * n)) e ∙ front;
-    long = ap length e ∙ length-paste s₀ (4 * n) s₀ (4 * n) (omega arith) (omega arith);
-  }
-    where
-      front : take (4 * n) (paste s₀ (4 * n) s₀ (4 * n)) ≡ take (4 * n) s₀
-      front =
-          ap (take (4 * n)) (append_assoc (take (4 * n) s₀) (take (4 * n) s₀) (drop (4 * n + 4 * n) s₀))
-          ∙ take_at (take (4 * n) s₀) (take (4 * n) s₀ ++ drop (4 * n + 4 * n) s₀) (4 * n) (length-take-le (4 * n) s₀ (omega arith))
-
-  pub vertices-counted : s₁ ≡ paste s₀ (4 * n) (drop 0 s₀) (4 * n) → different (rows 1 (4 * n) (drop (4 * n) s₁)) ≡ (counts_of (tets n s₀)).vertices
-  unfolding counts_of
-  vertices-counted e =
-      let k : 4 * n * 1 ≡ 4 * n = omega arith in
-      ap different
-      (rows_words 1 (4 * n) (drop (4 * n) s₁) s₀
-      (ap (λ (u : ℕ). take u (drop (4 * n) s₁)) k ∙ ap (λ (l : List ℕ). take (4 * n) (drop (4 * n) l)) e
-      ∙ paste-part s₀ s₀ (4 * n) (4 * n) (omega arith) (omega arith) ∙ ap (λ (u : ℕ). take u s₀) (sym k))
-      ∙ vertex-rows n s₀ (omega arith))
-
-  pub edges-kept : s₁ ≡ filled (edge_row_at s₀) 2 (4 * n) (6 * n) s₀ → KeptBelow (4 * n) s₀ s₁
-  unfolding edge_row_at
-  edges-kept e = fill-kept (edge_row_at s₀) 2 (λ i. refl) (4 * n) s₀ (omega arith) (6 * n) s₁ (omega arith) e
-
-  pub edges-counted : s₁ ≡ filled (edge_row_at s₀) 2 (4 * n) (6 * n) s₀ → different (rows 2 (6 * n) (drop (4 * n) s₁)) ≡ (counts_of (tets n s₀)).edges
-  unfolding edge_row_at counts_of
-  edges-counted e = ap different (filled-rows (edge_row_at s₀) 2 (λ i. refl) (4 * n) s₀ (omega arith) (6 * n) s₁ e ∙ edge-rows s₀ n)
-
-  pub triangles-kept : s₁ ≡ filled (triangle_row_at s₀) 3 (4 * n) (4 * n) s₀ → KeptBelow (4 * n) s₀ s₁
-  unfolding triangle_row_at
-  triangles-kept e = fill-kept (triangle_row_at s₀) 3 (λ i. refl) (4 * n) s₀ (omega arith) (4 * n) s₁ (omega arith) e
-
-  pub triangles-counted : s₁ ≡ filled (triangle_row_at s₀) 3 (4 * n) (4 * n) s₀ → different (rows 3 (4 * n) (drop (4 * n) s₁)) ≡ (counts_of (tets n s₀)).triangles
-  unfolding triangle_row_at counts_of
-  triangles-counted e = ap different (filled-rows (triangle_row_at s₀) 3 (λ i. refl) (4 * n) s₀ (omega arith) (4 * n) s₁ e ∙ triangle-rows s₀ n)
+-- the rows of triangles written behind the elements
+pub triangles-kept : (n : ℕ) (s₀ : List ℕ) → 28 * n ≤ length s₀ → (s₁ : List ℕ) → s₁ ≡ filled (triangle_row_at s₀) 3 (4 * n) (4 * n) s₀ → KeptBelow (4 * n) s₀ s₁
+unfolding triangle_row_at
+triangles-kept n s₀ room s₁ e = fill-kept (triangle_row_at s₀) 3 (λ i. refl) (4 * n) s₀ (omega arith) (4 * n) s₁ (omega arith) e
 
 -- ---- the whole
-
-pub fits-no : (n m : ℕ) → 65536 < n → false ≡ count_fits n m
-unfolding count_fits
-fits-no n m h = sym (rw (lt-leb n 65536 h) refl)
-
-pub fits-test : (n m : ℕ) → n ≤ 65536 → leb (28 * n) m ≡ count_fits n m
-unfolding count_fits
-fits-test n m h = sym (rw (le-leb n 65536 h) refl)
-
-pub fits-is : (n m : ℕ) → count_fits n m ≡ true → (n ≤ 65536) × (28 * n ≤ m)
-unfolding count_fits
-fits-is n m h = (leb-true n 65536 (and_left (leb n 65536) (leb (28 * n) m) h), leb-true (28 * n) m (and_right (leb n 65536) (leb (28 * n) m) h))
 
 pub in-no : (n : ℕ) (s : List ℕ) → count_fits n (length s) ≡ false
     → ◌≡◌ {A = Counted} (record { counts = record { vertices = 0; edges = 0; triangles = 0; elements = 0 }; area = s }) (counted_in n s)
@@ -234,11 +173,13 @@ module _ (n : ℕ) {s₀ s₁ s₂ s₃ : List ℕ} (k₁ : KeptBelow (4 * n) s�
   all-kept = kept-both (4 * n) s₀ s₂ s₃ (kept-both (4 * n) s₀ s₁ s₂ k₁ k₂) k₃
 
   pub in-yes : (v e t : ℕ) {s₄ : List ℕ} → count_fits n (length s₀) ≡ true
-      → v ≡ (counts_of (tets n s₀)).vertices → e ≡ (counts_of (tets n s₁)).edges → t ≡ (counts_of (tets n s₂)).triangles → s₄ ≡ take (4 * n) s₃ ++ zero_words (length s₃ - 4 * n)
+      → v ≡ different (map (vertex_row_at s₀) (numbers 0 (4 * n))) → e ≡ different (map (edge_row_at s₁) (numbers 0 (6 * n)))
+      → t ≡ different (map (triangle_row_at s₂) (numbers 0 (4 * n))) → s₄ ≡ take (4 * n) s₃ ++ zero_words (length s₃ - 4 * n)
       → ◌≡◌ {A = Counted} (record { counts = record { vertices = v; edges = e; triangles = t; elements = n }; area = s₄ }) (counted_in n s₀)
   unfolding counted_in counts_of
   in-yes v e t {s₄} f p q r z =
-      let q' : e ≡ (counts_of (tets n s₀)).edges = q ∙ ap (λ (ts : List Tet). (counts_of ts).edges) (tets-kept n k₁) in
-      let r' : t ≡ (counts_of (tets n s₀)).triangles = r ∙ ap (λ (ts : List Tet). (counts_of ts).triangles) (tets-kept n k₂ ∙ tets-kept n k₁) in
+      let p' : v ≡ (counts_of (tets n s₀)).vertices = p ∙ ap different (vertex-rows s₀ n) in
+      let q' : e ≡ (counts_of (tets n s₀)).edges = q ∙ ap different (edge-rows s₁ n) ∙ ap (λ (ts : List Tet). (counts_of ts).edges) (tets-kept n k₁) in
+      let r' : t ≡ (counts_of (tets n s₀)).triangles = r ∙ ap different (triangle-rows s₂ n) ∙ ap (λ (ts : List Tet). (counts_of ts).triangles) (tets-kept n k₂ ∙ tets-kept n k₁) in
       let a : s₄ ≡ take (4 * n) s₀ ++ zero_words (length s₀ - 4 * n) = z ∙ ap₂ (λ (l : List ℕ) (m : ℕ). l ++ zero_words (m - 4 * n)) all-kept.front all-kept.long in
       rw f (cc (length-tets n s₀))

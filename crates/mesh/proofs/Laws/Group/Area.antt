@@ -1,13 +1,10 @@
 -- The area of ranks and vertices: rows listed, sorted, and read again. Assumes nothing.
-use Rattle.std.proofs.Common.{◌≡◌, ℕ, zero, suc, ◌+◌, ◌*◌, ◌<◌, ◌≤◌, true, false, leb, List, [], ◌∷◌, ◌++◌, map, length, drop, set, replicate, sym, refl, ap, ◌∙◌, ap₂, arith, drop-drop, le-leb, leb-true}
+use Rattle.std.proofs.Common.{◌≡◌, ℕ, zero, suc, ◌+◌, ◌*◌, ◌<◌, ◌≤◌, true, false, leb, List, ◌∷◌, ◌++◌, map, length, drop, replicate, sym, refl, ap, ◌∙◌, ap₂, arith, drop-drop, le-leb, leb-true}
 use lib.Ieee.{Float}
-use lib.Seq.{paste, sets-eq}
-use borrow.Author.Tests.{lt-leb}
 use Rattle.geometry.specs.declared.point.Point.{Point}
 use Rattle.geometry.specs.declared.bounds.Options.{Options}
-use Rattle.geometry.specs.declared.bounds.Ranks.{Ranks}
 use Rattle.geometry.specs.Rank.{rank}
-use Rattle.mesh.specs.Words.{zero_point, points_of, zero_words, numbers, flat, point_in}
+use Rattle.mesh.specs.Words.{zero_point, points_of, zero_words, numbers, flat}
 use Rattle.mesh.specs.Sort.{sort}
 use Rattle.mesh.specs.inside.Rows.{rows, le_row, fit_rows, sorted_area}
 use Rattle.mesh.specs.Group.{rank_of}
@@ -17,42 +14,15 @@ use Rattle.mesh.proofs.Laws.Bools.{and_left, and_right}
 use Rattle.mesh.proofs.Laws.Rows.{rows-flat, shape-sort}
 use Rattle.mesh.proofs.Laws.Areas.{area-is}
 use Rattle.mesh.proofs.Laws.Intake.Reads.{length-points, points-at}
-use Rattle.mesh.proofs.Laws.Manifold.Fill.{fill-turn, fill-kept, filled-rows, filled-rest, shape-numbered}
+use Rattle.mesh.proofs.Laws.Manifold.Fill.{fill-kept, filled-rows, filled-rest, shape-numbered}
 
 -- ---- room
-
-pub fits-no : (n m : ℕ) → 65536 < n → false ≡ group_fits n m
-unfolding group_fits
-fits-no n m h = sym (rw (lt-leb n 65536 h) refl)
-
-pub fits-test : (n m : ℕ) → n ≤ 65536 → leb (14 * n) m ≡ group_fits n m
-unfolding group_fits
-fits-test n m h = sym (rw (le-leb n 65536 h) refl)
 
 pub fits-is : (n m : ℕ) → group_fits n m ≡ true → (n ≤ 65536) × (14 * n ≤ m)
 unfolding group_fits
 fits-is n m h = (leb-true n 65536 (and_left (leb n 65536) (leb (14 * n) m) h), leb-true (14 * n) m (and_right (leb n 65536) (leb (14 * n) m) h))
 
 -- ---- rows listed
-
-pub put-seven : (s : List ℕ) (p a b c d e f g : ℕ) → p + 7 ≤ length s
-    → set (set (set (set (set (set (set s p a) (p + 1) b) (p + 2) c) (p + 3) d) (p + 4) e) (p + 5) f) (p + 6) g ≡ paste s p (a ∷ b ∷ c ∷ d ∷ e ∷ f ∷ g ∷ []) 7
-put-seven s p a b c d e f g h =
-    let e₁ : p + 1 ≡ suc p = omega arith in
-    let e₂ : p + 2 ≡ suc (suc p) = omega arith in
-    let e₃ : p + 3 ≡ suc (suc (suc p)) = omega arith in
-    let e₄ : p + 4 ≡ suc (suc (suc (suc p))) = omega arith in
-    let e₅ : p + 5 ≡ suc (suc (suc (suc (suc p)))) = omega arith in
-    let e₆ : p + 6 ≡ suc (suc (suc (suc (suc (suc p))))) = omega arith in
-    rw (e₁, e₂, e₃, e₄, e₅, e₆) (sets-eq (a ∷ b ∷ c ∷ d ∷ e ∷ f ∷ g ∷ []) s p h)
-
-pub group-turn : (o : Options) (fs : List Float) (n v : ℕ) (s₀ s s' : List ℕ) (p : Point) (r : Ranks) → 14 * n ≤ length s₀ → v < n → s ≡ filled (group_row_at o fs) 7 0 v s₀
-    → p ≡ point_in fs v → r ≡ rank p o → s' ≡ paste s (7 * v) (group_row r v) 7 → s' ≡ filled (group_row_at o fs) 7 0 (v + 1) s₀
-unfolding group_row_at
-group-turn o fs n v s₀ s s' p r room h e f g q =
-    let k : 7 * v ≡ 0 + 7 * v = omega arith in
-    fill-turn (group_row_at o fs) 7 (λ i. refl) 0 s₀ (omega arith) v s s' (group_row r v) (omega arith) e
-    (ap (λ (u : Ranks). group_row u v) (g ∙ ap (λ (u : Point). rank u o) f)) (q ∙ ap (λ (u : ℕ). paste s u (group_row r v) 7) k)
 
 map-numbers : (f g : ℕ → List ℕ) (k n : ℕ) → ((j : ℕ) → k ≤ j → j < k + n → f j ≡ g j) → map f (numbers k n) ≡ map g (numbers k n)
 unfolding numbers

@@ -1,73 +1,48 @@
 -- The area in which number 14 is decided: rows of sorted vertices at the front of the work, sorted, scanned and cleared.
 -- Assumes nothing.
-use Rattle.std.proofs.Common.{◌≡◌, ℕ, zero, suc, ◌+◌, ◌-◌, ◌*◌, ◌<◌, ◌≤◌, Bool, true, false, not, ◌&&◌, leb, List, [], ◌∷◌, ◌++◌, map, length, get_or, take, drop, replicate, sym, refl, ap, ◌∙◌, ap₂, append_assoc, append-nil, le_of_suc-le-suc, not-suc-le-zero, add-one, sub-one, arith, length-append, length-drop, length-take-le, take_all, take-suc, drop-drop, take_at, drop_at, le-leb}
+use Rattle.std.specs.List.{range_with_len, list_all}
+use Rattle.std.proofs.Common.{◌≡◌, ℕ, zero, suc, ◌+◌, ◌-◌, ◌*◌, ◌<◌, ◌≤◌, Bool, true, not, ◌&&◌, List, [], ◌∷◌, ◌++◌, map, length, take, drop, replicate, sym, refl, ap, ◌∙◌, ap₂, append_assoc, le_of_suc-le-suc, not-suc-le-zero, sub-one, arith, length-append, length-drop, drop-drop, take_at, drop_at, le-leb}
 use lib.ListN.{replicate-append-replicate}
-use lib.Seq.{paste}
 use Rattle.mesh.specs.declared.element.Tet.{Tet}
 use Rattle.mesh.specs.Sort.{sort}
 use Rattle.mesh.specs.inside.Sort.{headed, ordered}
 use Rattle.mesh.specs.inside.Rows.{rows, le_row, eq_row, fit_rows, sorted_area}
-use Rattle.mesh.specs.Words.{flat, zero_words}
-use Rattle.mesh.specs.Element.{tet, tets, vertices_of}
+use Rattle.mesh.specs.Words.{numbers, flat, zero_words}
+use Rattle.mesh.specs.inside.Euler.{spread}
+use Rattle.mesh.specs.inside.Manifold.{filled}
+use Rattle.mesh.specs.Element.{tets}
 use Rattle.mesh.specs.inside.Intake.{tet_at, vertex_row, none_twice}
-use Rattle.mesh.proofs.Laws.Sort.{length-sort}
+use Rattle.mesh.specs.inside.RowWidths.{sorted_row-wide}
 use Rattle.mesh.proofs.Laws.Rows.{Shape, none, more, rows-flat, length-flat, shape-sort}
 use Rattle.mesh.proofs.Laws.Areas.{area-is, rows-sorted}
-use Rattle.mesh.proofs.Laws.Intake.Reads.{length-tets, tets-at}
+use Rattle.mesh.proofs.Laws.Intake.Reads.{length-tets}
+use Rattle.mesh.proofs.Laws.Euler.Areas.{spread-numbers}
 
--- ---- four words
+-- ---- rows listed at the front
 
-four-words : (t : Tet) → length (vertex_row t) ≡ 4
-unfolding vertex_row
-four-words t = length-sort leb (vertices_of t)
+-- the sorted vertices of the element e
+abbrev pub row_of : List ℕ → ℕ → List ℕ
+row_of el e = vertex_row (tet_at el e)
 
--- ---- rows filled from the front
+one-each : (ts : List Tet) → spread (λ t. vertex_row t ∷ []) ts ≡ map vertex_row ts
+unfolding spread
+one-each [] = refl
+one-each (t ∷ ts) = ap (λ (l : List (List ℕ)). vertex_row t ∷ l) (one-each ts)
 
-words-length : (ts : List Tet) → length (flat (map vertex_row ts)) ≡ 4 * length ts
-unfolding flat
-words-length [] = refl
-words-length (t ∷ ts) = omega (arith, length-append (vertex_row t) (flat (map vertex_row ts)), four-words t, words-length ts)
+rows-numbered : (el : List ℕ) (n : ℕ) → map (row_of el) (numbers 0 n) ≡ map vertex_row (tets n el)
+unfolding numbers
+rows-numbered el n =
+    let e : n ≡ 1 * n = omega arith in
+    ap (λ (k : ℕ). map (row_of el) (numbers 0 k)) e
+    ∙ spread-numbers el (row_of el) 1 (λ t. vertex_row t ∷ []) (λ i. let k : 1 * i ≡ i = omega arith in ap (λ (u : ℕ). row_of el u ∷ []) k) n
+    ∙ one-each (tets n el)
 
-words_more : (ts : List Tet) (t : Tet) → flat (map vertex_row (ts ++ (t ∷ []))) ≡ flat (map vertex_row ts) ++ vertex_row t
-unfolding flat
-words_more [] t = append-nil (vertex_row t)
-words_more (u ∷ ts) t = ap (λ (l : List ℕ). vertex_row u ++ l) (words_more ts t) ∙ sym (append_assoc (vertex_row u) (flat (map vertex_row ts)) (vertex_row t))
-
--- the words of the first e of n elements, and behind them what stood there
-unfoldable pub filled : ℕ → List ℕ → List ℕ → ℕ → List ℕ
-filled n el s e = flat (map vertex_row (take e (tets n el))) ++ drop (4 * e) s
-
-module _ (n : ℕ) (el s₀ : List ℕ) (room : 4 * n ≤ length s₀) where
-  pub filled_none : s₀ ≡ filled n el s₀ 0
-  unfolding filled flat
-  filled_none = refl
-
-  -- one more element
-  pub filled_more : (s s' row : List ℕ) (e : ℕ) → e < n → s ≡ filled n el s₀ e → row ≡ vertex_row (tet_at el e) → s' ≡ paste s (4 * e) row 4
-      → s' ≡ filled n el s₀ (e + 1)
-  unfolding filled
-  filled_more s s' row e h q r p =
-      let f = flat (map vertex_row (take e (tets n el))) in
-      let z = tet 0 0 0 0 in
-      let m : length f ≡ 4 * e = words-length (take e (tets n el)) ∙ ap (λ (k : ℕ). 4 * k) (length-take-le e (tets n el) (omega (arith, length-tets n el))) in
-      let front : take (4 * e) s ≡ f = ap (take (4 * e)) q ∙ take_at f (drop (4 * e) s₀) (4 * e) m in
-      let behind : drop (4 * e + 4) s ≡ drop (4 * e + 4) s₀ =
-      sym (drop-drop 4 (4 * e) s) ∙ ap (λ (l : List ℕ). drop 4 (drop (4 * e) l)) q ∙ ap (drop 4) (drop_at f (drop (4 * e) s₀) (4 * e) m) ∙ drop-drop 4 (4 * e) s₀ in
-      let whole : take 4 row ≡ vertex_row (tet_at el e) = ap (take 4) r ∙ take_all 4 (vertex_row (tet_at el e)) (omega (arith, four-words (tet_at el e))) in
-      let next : flat (map vertex_row (take (e + 1) (tets n el))) ≡ f ++ vertex_row (tet_at el e) =
-      ap (λ (k : ℕ). flat (map vertex_row (take k (tets n el)))) (add-one e)
-      ∙ ap (λ (l : List Tet). flat (map vertex_row l)) (take-suc (tets n el) e z (omega (arith, length-tets n el)))
-      ∙ words_more (take e (tets n el)) (get_or (tets n el) e z) ∙ ap (λ (t : Tet). f ++ vertex_row t) (tets-at n el e z h) in
-      let k : 4 * e + 4 ≡ 4 * (e + 1) = omega arith in
-      p ∙ ap₂ (λ (u v : List ℕ). u ++ v) (ap₂ (λ (u v : List ℕ). u ++ v) front whole ∙ sym next) (behind ∙ ap (λ (i : ℕ). drop i s₀) k)
-
-  -- all elements
-  pub filled-all : (s : List ℕ) (e : ℕ) → e ≡ n → s ≡ filled n el s₀ e → s ≡ flat (map vertex_row (tets n el)) ++ drop (4 * n) s₀
-  unfolding filled
-  filled-all s e h q =
-      q
-      ∙ ap (λ (k : ℕ). flat (map vertex_row (take k (tets n el))) ++ drop (4 * k) s₀) h
-      ∙ ap (λ (l : List Tet). flat (map vertex_row l) ++ drop (4 * n) s₀) (take_all n (tets n el) (omega (arith, length-tets n el)))
+-- the rows listed at the front, and behind them what stood there
+pub rows-listed : (el s₀ s : List ℕ) (n : ℕ) → s ≡ filled (row_of el) 4 0 n s₀ → s ≡ flat (map vertex_row (tets n el)) ++ drop (4 * n) s₀
+unfolding filled
+rows-listed el s₀ s n q =
+    let k : 0 + 4 * n ≡ 4 * n = omega arith in
+    q ∙ ap₂ (λ (l : List (List ℕ)) (i : ℕ). flat l ++ drop i s₀) (rows-numbered el n) k
 
 -- ---- neighbours compared
 
@@ -78,19 +53,27 @@ two-rows s p zero h = absurd (not-suc-le-zero h)
 two-rows s p (suc zero) h = absurd (not-suc-le-zero (le_of_suc-le-suc h))
 two-rows s p (suc (suc k)) h = rw (sub-one, ← (drop-drop 4 p s))
 
-pub twice-turn : (s : List ℕ) (p left : ℕ) → 1 < left → eq_row (take 4 (drop p s)) (take 4 (drop (p + 4) s)) ≡ false
-    → none_twice (rows 4 (left - 1) (drop (p + 4) s)) ≡ none_twice (rows 4 left (drop p s))
-twice-turn s p left h e = sym (two-rows s p left h ∙ ap (λ (b : Bool). not b && none_twice (rows 4 (left - 1) (drop (p + 4) s))) e)
-
-pub twice-fail : (s : List ℕ) (p left : ℕ) → 1 < left → eq_row (take 4 (drop p s)) (take 4 (drop (p + 4) s)) ≡ true
-    → none_twice (rows 4 left (drop p s)) ≡ false
-twice-fail s p left h e = two-rows s p left h ∙ ap (λ (b : Bool). not b && none_twice (rows 4 (left - 1) (drop (p + 4) s))) e
-
-pub twice-end : (s : List ℕ) (p left : ℕ) → left ≤ 1 → none_twice (rows 4 left (drop p s)) ≡ true
+twice-end : (s : List ℕ) (p left : ℕ) → left ≤ 1 → none_twice (rows 4 left (drop p s)) ≡ true
 unfolding rows none_twice ordered headed
 twice-end s p zero h = refl
 twice-end s p (suc zero) h = refl
 twice-end s p (suc (suc k)) h = absurd (not-suc-le-zero (le_of_suc-le-suc h))
+
+-- each row but the first tested against the one before it
+twice-from : (s : List ℕ) (k m : ℕ) → list_all (λ i. not (eq_row (take 4 (drop (4 * (i - 1)) s)) (take 4 (drop (4 * i) s)))) (range_with_len (m + 1) k) ≡ none_twice (rows 4 (k + 1) (drop (4 * m) s))
+twice-from s zero m = sym (twice-end s (4 * m) (0 + 1) (omega arith))
+twice-from s (suc k) m =
+    let e : m + 1 - 1 ≡ m = omega arith in
+    let f : 4 * (m + 1) ≡ 4 * m + 4 = omega arith in
+    let g : suc k + 1 - 1 ≡ k + 1 = omega arith in
+    ap₂ (λ (u v : ℕ). not (eq_row (take 4 (drop (4 * u) s)) (take 4 (drop v s))) && list_all (λ i. not (eq_row (take 4 (drop (4 * (i - 1)) s)) (take 4 (drop (4 * i) s)))) (range_with_len (m + 1 + 1) k)) e f
+    ∙ ap (λ (b : Bool). not (eq_row (take 4 (drop (4 * m) s)) (take 4 (drop (4 * m + 4) s))) && b)
+    (twice-from s k (m + 1) ∙ ap₂ (λ (u v : ℕ). none_twice (rows 4 u (drop v s))) (sym g) f)
+    ∙ sym (two-rows s (4 * m) (suc k + 1) (omega arith))
+
+pub twice-all : (s : List ℕ) (n : ℕ) → list_all (λ i. not (eq_row (take 4 (drop (4 * (i - 1)) s)) (take 4 (drop (4 * i) s)))) (range_with_len 1 (n - 1)) ≡ none_twice (rows 4 n s)
+twice-all s zero = sym (twice-end s 0 0 (omega arith))
+twice-all s (suc n) = let e : suc n - 1 ≡ n = omega arith in let f : n + 1 ≡ suc n = omega arith in rw e (twice-from s n 0 ∙ ap (λ (u : ℕ). none_twice (rows 4 u s)) f)
 
 -- ---- filled, sorted and cleared
 
@@ -104,7 +87,7 @@ shape-rows-of (t ∷ ts) zero h = absurd (no (length ts) h)
   where
     no : (n : ℕ) → suc n ≡ 0 → ⊥
     no n h = omega arith
-shape-rows-of (t ∷ ts) (suc n) h = more (four-words t) (shape-rows-of ts n (down (length ts) n h))
+shape-rows-of (t ∷ ts) (suc n) h = more (sorted_row-wide t) (shape-rows-of ts n (down (length ts) n h))
   where
     down : (a b : ℕ) → suc a ≡ suc b → a ≡ b
     down a b h = omega arith

@@ -3,12 +3,8 @@ use Rattle.std.proofs.Common.{◌≡◌, Bool, true, false, not, ◌&&◌, ◌||
 use borrow.Author.Tests.{not-true, not-false}
 use Rattle.mesh.proofs.Laws.Bools.{clash}
 
--- ---- "this or that"
+-- ---- "this or that" that fails
 
-pub or-on : {a b r : Bool} → a ≡ false → r ≡ b → r ≡ (a || b)
-or-on {b} h e = rw h e
-
--- one that fails
 pub neither_left : (a b : Bool) → (a || b) ≡ false → a ≡ false
 neither_left true b h = clash true refl h
 neither_left false b h = refl

@@ -1,10 +1,13 @@
 -- The rows of the boundary faces about an edge, put one by one behind the sorted keys. Assumes nothing.
-use Rattle.std.proofs.Common.{◌≡◌, ℕ, zero, suc, ◌+◌, ◌*◌, ◌<◌, ◌≤◌, Bool, true, false, cond, List, [], ◌∷◌, ◌++◌, map, length, get_or, take, drop, sym, refl, ap, ◌∙◌, subst, ap₂, append_assoc, append-nil, arith, length-append, length-drop, drop_of_length-le, length-take-le, drop-cons, get_or-take, drop-drop, drop_at}
+use Rattle.std.proofs.Common.{◌≡◌, ℕ, zero, suc, ◌+◌, ◌*◌, ◌<◌, ◌≤◌, Bool, true, false, cond, Some, None, List, [], ◌∷◌, ◌++◌, map, length, take, drop, sym, refl, ap, ◌∙◌, subst, ap₂, append_assoc, append-nil, arith, length-append, length-take-le, get_or-take, drop-drop, drop_at}
+use Rattle.std.proofs.lemmas.List.{drop-take}
 use mathlib.Core.List.{map-append}
 use lib.Seq.{paste}
 use Rattle.mesh.specs.declared.element.Triple.{Triple}
+use Rattle.mesh.specs.declared.runs.Runs.{Runs}
 use Rattle.mesh.specs.Sort.{sort}
-use Rattle.mesh.specs.inside.Rows.{rows, le_row, sorted_area, run, run_length}
+use Rattle.mesh.specs.inside.Rows.{rows, le_row, sorted_area}
+use Rattle.mesh.specs.inside.Runs.{runs_left, GivesRun, RunsOf}
 use Rattle.mesh.specs.Words.{flat}
 use Rattle.mesh.specs.Element.{tets}
 use Rattle.mesh.specs.inside.Group.{runs, same_first}
@@ -12,41 +15,23 @@ use Rattle.mesh.specs.inside.Manifold.{KeptBelow}
 use Rattle.mesh.specs.inside.Faces.{SortedKeys}
 use Rattle.mesh.specs.inside.List.{stacked}
 use Rattle.mesh.specs.inside.LinkRows.{face_rows, face_in, alone_about, run_faces, faces_alone, alone_faces, rows_of_faces}
-use Rattle.mesh.proofs.Laws.Rows.{Shape, none, more, rows-flat, length-rows, rows_at}
+use Rattle.mesh.specs.inside.LinkAreas.{AloneRows}
+use Rattle.mesh.proofs.Laws.EachRun.{length-runs, rows-front}
+use Rattle.mesh.proofs.Laws.Rows.{Shape, none, more, rows-flat, length-rows}
 use Rattle.mesh.proofs.Laws.Manifold.Fill.{flat_append}
 use Rattle.mesh.proofs.Laws.Manifold.Growth.{kept-both}
-use Rattle.mesh.proofs.Laws.Manifold.RowRuns.{run-turn, run-first}
-use Rattle.mesh.proofs.Laws.Manifold.Steps.{rows-below, kept_less, sort-kept, sort-from-rows, run_is, run-few}
+use Rattle.mesh.proofs.Laws.Manifold.Steps.{kept_less, sort-kept, sort-from-rows}
 use Rattle.mesh.proofs.Laws.List.Stack.{stack-start, stack-kept, stack-turn}
 
 -- ---- runs of keys
 
--- the faces of the run at the front, and of those behind it
-faces-front : (a b : ℕ) (r : List ℕ) (rs : List (List ℕ))
-    → faces_alone a b (runs (same_first 3) (r ∷ rs)) ≡ run_faces a b (take (run 3 (r ∷ rs)) (r ∷ rs)) ++ faces_alone a b (runs (same_first 3) (drop (run 3 (r ∷ rs)) (r ∷ rs)))
-unfolding faces_alone
-faces-front a b r rs = ap (faces_alone a b) (run-turn 3 r rs)
-
-module _ (a b : ℕ) (rs : List (List ℕ)) (first : ℕ) (h : first < length rs) where
-  faces-at : faces_alone a b (runs (same_first 3) (drop first rs))
-      ≡ run_faces a b (take (run 3 (drop first rs)) (drop first rs)) ++ faces_alone a b (runs (same_first 3) (drop (first + run 3 (drop first rs)) rs))
-  faces-at =
-      go (drop first rs) (drop-cons rs first [] h)
-      ∙ ap (λ (u : List (List ℕ)). run_faces a b (take (run 3 (drop first rs)) (drop first rs)) ++ faces_alone a b (runs (same_first 3) u)) (drop-drop (run 3 (drop first rs)) first rs)
-    where
-      go : (l : List (List ℕ)) → l ≡ get_or rs first [] ∷ drop (suc first) rs → faces_alone a b (runs (same_first 3) l) ≡ run_faces a b (take (run 3 l) l) ++ faces_alone a b (runs (same_first 3) (drop (run 3 l) l))
-      go l e = rw e (faces-front a b (get_or rs first []) (drop (suc first) rs))
-
-  run-positive : 0 < run 3 (drop first rs)
-  run-positive = go (drop first rs) (drop-cons rs first [] h)
-    where
-      go : (l : List (List ℕ)) → l ≡ get_or rs first [] ∷ drop (suc first) rs → 0 < run 3 l
-      go l e = rw e (run-first 3 (get_or rs first []) (drop (suc first) rs))
-
-  -- the face of the run
-  run-head : (k : ℕ) → 0 < k → get_or (take k (drop first rs)) 0 [] ≡ get_or rs first []
-  run-head (suc k) p = ap (λ (l : List (List ℕ)). get_or (take (suc k) l) 0 []) (drop-cons rs first [] h)
-  run-head zero p = absurd (omega arith)
+-- the face of a run
+run-face : (a b k : ℕ) (l : List ℕ) (f : Triple) → 0 < k → f ≡ face_in l → run_faces a b (rows 3 k l) ≡ cond (alone_about a b k f) (f ∷ []) []
+unfolding rows
+run-face a b zero l f h e = absurd (omega arith)
+run-face a b (suc k) l f h e =
+    ap₂ (λ (u : ℕ) (t : Triple). cond (alone_about a b u t) (t ∷ []) []) (length-rows 3 (suc k) l)
+    (rw (get_or-take 3 l 0 0 (omega arith), get_or-take 3 l 1 0 (omega arith), get_or-take 3 l 2 0 (omega arith)) (sym e))
 
 -- ---- the rows of faces as nine words each
 
@@ -71,100 +56,100 @@ flat-nine a b (f ∷ fs) = ap (λ (l : List ℕ). flat (face_rows a b f) ++ l) (
 -- ---- the loop
 
 module _ (a b n : ℕ) (s₀ : List ℕ) where
+  abbrev front : List ℕ
+  front = take (16 * n) s₀
+
   abbrev keys : List (List ℕ)
-  keys = rows 3 (4 * n) (drop (4 * n) s₀)
+  keys = rows 3 (4 * n) (drop (4 * n) front)
 
   abbrev stack : List Triple → List ℕ
-  stack fs = stacked (map (λ f. flat (face_rows a b f)) fs) 9 (16 * n) s₀
+  stack fs = stacked (map (λ f. flat (face_rows a b f)) fs) 9 0 (drop (16 * n) s₀)
 
   -- what holds at the head of the loop: the faces of the runs passed are put
-  pub record Putting (s : List ℕ) (c first : ℕ) : Type 0 where
+  pub record Putting (s : List ℕ) (c : ℕ) (r : Runs) : Type 0 where
+    pub keyed : r.area.now ≡ front
+    pub width : r.w ≡ 3
     pub done : List Triple
-    pub all : done ++ faces_alone a b (runs (same_first 3) (drop first keys)) ≡ faces_alone a b (runs (same_first 3) keys)
+    pub all : done ++ faces_alone a b (runs_left r) ≡ faces_alone a b (runs (same_first 3) keys)
     pub number : c ≡ length done
-    pub few : c ≤ first
-    pub bound : first ≤ 4 * n
+    pub few : c + length (runs_left r) ≤ 4 * n
     pub area : s ≡ stack done
 
-  module _ (room : 88 * n ≤ length s₀) where
-    pub put-start : Putting s₀ 0 0
-    put-start = record { done = []; all = refl; number = refl; few = omega arith; bound = omega arith; area = stack-start 9 (16 * n) s₀ }
+  pub put-start : {t s : List ℕ} {r : Runs} → t ≡ front → s ≡ drop (16 * n) s₀ → RunsOf t (4 * n) (4 * n) 3 3 r → Putting s 0 r
+  put-start {t} {s} {r} e d g =
+      let k : runs_left r ≡ runs (same_first 3) keys = g.left ∙ ap (λ (l : List ℕ). runs (same_first 3) (rows 3 (4 * n) (drop (4 * n) l))) e in
+      record {
+        keyed = g.area ∙ e;
+        width = g.width;
+        done = [];
+        all = ap (faces_alone a b) k;
+        number = refl;
+        few = omega (arith, ap length k, length-runs (same_first 3) keys, length-rows 3 (4 * n) (drop (4 * n) front));
+        area = d ∙ stack-start 9 0 (drop (16 * n) s₀);
+      }
 
-    module _ {s : List ℕ} {c first : ℕ} (v : Putting s c first) where
-      pub put-kept : KeptBelow (16 * n) s₀ s
-      put-kept =
-          subst (KeptBelow (16 * n) s₀) (sym v.area)
-          (stack-kept (length v.done) (shape-nine a b v.done) (16 * n) s₀ (omega arith) (omega (arith, v.number, v.few, v.bound)))
+  module _ {s : List ℕ} {c : ℕ} {r : Runs} (v : Putting s c r) where
+    module _ (x : ℕ × ℕ) (r' : Runs) (g : GivesRun r (Some x) r') where
+      pub put-few : c < 4 * n
+      put-few = omega (arith, v.few, ap length g.2.0)
 
-      keys_kept : rows 3 (4 * n) (drop (4 * n) s) ≡ keys
-      keys_kept = rows-below put-kept 3 (4 * n) (4 * n) (omega arith)
+      pub put-inside : x.0 + 3 ≤ length front
+      put-inside =
+          let w : x.1 * r.w ≡ x.1 * 3 = ap (λ (u : ℕ). x.1 * u) v.width in
+          omega (arith, g.2.1, g.2.2, ap length v.keyed)
 
-      pub put-end : 4 * n ≤ first → (c ≡ length (faces_alone a b (runs (same_first 3) keys))) × (c ≤ 4 * n) × (s ≡ stack (faces_alone a b (runs (same_first 3) keys)))
-      unfolding runs faces_alone
-      put-end h =
-          let d : drop first keys ≡ [] = drop_of_length-le keys {i = first} (omega (arith, length-rows 3 (4 * n) (drop (4 * n) s₀))) in
-          let e : v.done ≡ faces_alone a b (runs (same_first 3) keys) = sym (append-nil v.done) ∙ ap (λ (l : List (List ℕ)). v.done ++ faces_alone a b (runs (same_first 3) l)) (sym d) ∙ v.all in
-          (v.number ∙ ap length e, omega (arith, v.few, v.bound), v.area ∙ ap stack e)
+      module _ {f : Triple} (e : f ≡ face_in (drop x.0 front)) where
+        -- the faces from here on
+        next : (p : Bool) → alone_about a b x.1 f ≡ p → faces_alone a b (runs_left r) ≡ cond p (f ∷ []) [] ++ faces_alone a b (runs_left r')
+        unfolding faces_alone
+        next p q =
+            ap (faces_alone a b) g.2.0
+            ∙ ap (λ (l : List Triple). l ++ faces_alone a b (runs_left r'))
+            (ap₂ (λ (l : List ℕ) (w : ℕ). run_faces a b (rows w x.1 (drop x.0 l))) v.keyed v.width ∙ run-face a b x.1 (drop x.0 front) f g.2.1 e ∙ ap (λ (u : Bool). cond u (f ∷ []) []) q)
 
-      module _ (h : first < 4 * n) (k : ℕ) (e : k ≡ run_length first (4 * n) 3 3 (drop (4 * n) s)) where
-        inside : first < length keys
-        inside = omega (arith, length-rows 3 (4 * n) (drop (4 * n) s₀))
+        -- one more face
+        pub put-more : alone_about a b x.1 f ≡ true → (s' : List ℕ) → s' ≡ paste s (9 * c) (flat (face_rows a b f)) 9 → Putting s' (c + 1) r'
+        put-more q s' w = record {
+          keyed = ap (λ u. u.now) g.0 ∙ v.keyed;
+          width = g.1 ∙ v.width;
+          done = v.done ++ (f ∷ []);
+          all = append_assoc v.done (f ∷ []) (faces_alone a b (runs_left r')) ∙ ap (λ (l : List Triple). v.done ++ l) (sym (next true q)) ∙ v.all;
+          number = ap (λ (u : ℕ). u + 1) v.number ∙ sym (length-append v.done (f ∷ []));
+          few = omega (arith, v.few, ap length g.2.0);
+          area =
+              stack-turn (length v.done) (shape-nine a b v.done) 0 (drop (16 * n) s₀) (omega arith) s s' (flat (face_rows a b f)) v.area (nine-size a b f)
+              (w ∙ (let i : 9 * c ≡ 0 + 9 * length v.done = omega (arith, v.number) in ap (λ (u : ℕ). paste s u (flat (face_rows a b f)) 9) i))
+              ∙ ap (λ (l : List (List ℕ)). stacked l 9 0 (drop (16 * n) s₀)) (sym (map-append (λ f. flat (face_rows a b f)) v.done (f ∷ [])));
+        }
 
-        is-run : k ≡ run 3 (drop first keys)
-        is-run =
-            e ∙ run_is first (4 * n) 3 3 (drop (4 * n) s) (omega arith) (omega (arith, length-drop (4 * n) s, put-kept.long)) (omega arith)
-            ∙ ap (λ (l : List (List ℕ)). run 3 (drop first l)) keys_kept
+        -- none
+        pub put-less : alone_about a b x.1 f ≡ false → Putting s c r'
+        put-less q = record {
+          keyed = ap (λ u. u.now) g.0 ∙ v.keyed;
+          width = g.1 ∙ v.width;
+          done = v.done;
+          all = ap (λ (l : List Triple). v.done ++ l) (sym (next false q)) ∙ v.all;
+          number = v.number;
+          few = omega (arith, v.few, ap length g.2.0);
+          area = v.area;
+        }
 
-        pub put-few : first + k ≤ 4 * n
-        put-few = omega (arith, is-run, run-few 3 (drop first keys), length-drop first keys, length-rows 3 (4 * n) (drop (4 * n) s₀))
-
-        pub put_some : 0 < k
-        put_some = omega (arith, is-run, run-positive a b keys first inside)
-
-        module _ (f : Triple) (g : f ≡ face_in (drop (4 * n + 3 * first) s)) where
-          face-is : face_in (get_or (take k (drop first keys)) 0 []) ≡ f
-          face-is =
-              ap face_in (run-head a b keys first inside k put_some ∙ sym (ap (λ (l : List (List ℕ)). get_or l first []) keys_kept) ∙ rows_at 3 (4 * n) (drop (4 * n) s) first h ∙ ap (take 3) (drop-drop (first * 3) (4 * n) s))
-              ∙ short-face (drop (4 * n + first * 3) s) ∙ (let q : 4 * n + first * 3 ≡ 4 * n + 3 * first = omega arith in ap (λ (u : ℕ). face_in (drop u s)) q) ∙ sym g
-            where
-              short-face : (l : List ℕ) → face_in (take 3 l) ≡ face_in l
-              short-face l = rw (get_or-take 3 l 0 0 (omega arith), get_or-take 3 l 1 0 (omega arith), get_or-take 3 l 2 0 (omega arith)) refl
-
-          -- the faces from here on
-          next : (p : Bool) → alone_about a b k f ≡ p → faces_alone a b (runs (same_first 3) (drop first keys)) ≡ cond p (f ∷ []) [] ++ faces_alone a b (runs (same_first 3) (drop (first + k) keys))
-          next p q =
-              faces-at a b keys first inside
-              ∙ ap (λ (u : ℕ). run_faces a b (take u (drop first keys)) ++ faces_alone a b (runs (same_first 3) (drop (first + u) keys))) (sym is-run)
-              ∙ ap (λ (l : List Triple). l ++ faces_alone a b (runs (same_first 3) (drop (first + k) keys)))
-              (ap₂ (λ (u : ℕ) (t : Triple). cond (alone_about a b u t) (t ∷ []) []) (length-take-le k (drop first keys) (omega (arith, is-run, run-few 3 (drop first keys)))) face-is
-              ∙ ap (λ (u : Bool). cond u (f ∷ []) []) q)
-
-          -- one more face
-          pub put-more : alone_about a b k f ≡ true → (s' : List ℕ) → s' ≡ paste s (16 * n + 9 * c) (flat (face_rows a b f)) 9 → Putting s' (c + 1) (first + k)
-          put-more q s' w =
-              record {
-                done = v.done ++ (f ∷ []);
-                all = append_assoc v.done (f ∷ []) (faces_alone a b (runs (same_first 3) (drop (first + k) keys))) ∙ ap (λ (l : List Triple). v.done ++ l) (sym (next true q)) ∙ v.all;
-                number = ap (λ (u : ℕ). u + 1) v.number ∙ sym (length-append v.done (f ∷ []));
-                few = omega (arith, v.few, put_some);
-                bound = put-few;
-                area =
-                    stack-turn (length v.done) (shape-nine a b v.done) (16 * n) s₀ (omega arith) s s' (flat (face_rows a b f)) v.area (nine-size a b f)
-                    (w ∙ ap (λ (u : ℕ). paste s (16 * n + 9 * u) (flat (face_rows a b f)) 9) v.number)
-                    ∙ ap (λ (l : List (List ℕ)). stacked l 9 (16 * n) s₀) (sym (map-append (λ f. flat (face_rows a b f)) v.done (f ∷ [])));
-              }
-
-          -- none
-          pub put-less : alone_about a b k f ≡ false → Putting s c (first + k)
-          put-less q =
-              record {
-                done = v.done;
-                all = ap (λ (l : List Triple). v.done ++ l) (sym (next false q)) ∙ v.all;
-                number = v.number;
-                few = omega (arith, v.few);
-                bound = put-few;
-                area = v.area;
-              }
+    pub put-end : (r' : Runs) → GivesRun r None r' → AloneRows a b n s₀ (front ++ s) c
+    unfolding faces_alone stacked
+    put-end r' g =
+        let all = faces_alone a b (runs (same_first 3) (rows 3 (4 * n) (drop (4 * n) s₀))) in
+        let i : 4 * n + 12 * n ≡ 16 * n = omega arith in
+        let k : keys ≡ rows 3 (4 * n) (drop (4 * n) s₀) =
+        ap (λ (u : ℕ). rows 3 (4 * n) (drop (4 * n) (take u s₀))) (sym i) ∙ ap (rows 3 (4 * n)) (drop-take (4 * n) (12 * n) s₀) ∙ rows-front 3 (4 * n) (12 * n) (drop (4 * n) s₀) (omega arith) in
+        let e : v.done ≡ all =
+        sym (append-nil v.done) ∙ ap (λ (l : List (List (List ℕ))). v.done ++ faces_alone a b l) (sym g.2) ∙ v.all ∙ ap (λ (l : List (List ℕ)). faces_alone a b (runs (same_first 3) l)) k in
+        record {
+          number = v.number ∙ ap length e;
+          few = omega (arith, v.few);
+          area =
+              ap (λ (l : List ℕ). front ++ l) (v.area ∙ ap stack e)
+              ∙ ap (λ (l : List ℕ). front ++ (flat (map (λ f. flat (face_rows a b f)) all) ++ l)) (drop-drop (0 + 9 * length (map (λ f. flat (face_rows a b f)) all)) (16 * n) s₀ ∙ ap (λ (u : ℕ). drop u s₀) (let z : 16 * n + (0 + 9 * length (map (λ f. flat (face_rows a b f)) all)) ≡ 16 * n + 9 * length (map (λ f. flat (face_rows a b f)) all) = omega arith in z));
+        }
 
 -- ---- the whole
 
@@ -172,18 +157,14 @@ module _ (a b n : ℕ) (s₀ s₂ s₃ s₄ : List ℕ) (room : 88 * n ≤ lengt
   kept₂ : KeptBelow (4 * n) s₀ s₂
   kept₂ = k.kept
 
-  pub sorted-room : 88 * n ≤ length s₂
-  sorted-room = omega (arith, kept₂.long)
-
-  module _ (c : ℕ) (number : c ≡ length (faces_alone a b (runs (same_first 3) (rows 3 (4 * n) (drop (4 * n) s₂))))) (few : c ≤ 4 * n)
-      (e₃ : s₃ ≡ stacked (map (λ f. flat (face_rows a b f)) (faces_alone a b (runs (same_first 3) (rows 3 (4 * n) (drop (4 * n) s₂))))) 9 (16 * n) s₂) where
+  module _ (c : ℕ) (rows_alone : AloneRows a b n s₂ s₃ c) where
     abbrev fs : List Triple
     fs = faces_alone a b (runs (same_first 3) (rows 3 (4 * n) (drop (4 * n) s₂)))
 
     kept₃ : KeptBelow (16 * n) s₂ s₃
-    kept₃ = subst (KeptBelow (16 * n) s₂) (sym e₃) (stack-kept (length fs) (shape-nine a b fs) (16 * n) s₂ (omega (arith, kept₂.long)) (omega (arith, kept₂.long)))
+    kept₃ = subst (KeptBelow (16 * n) s₂) (sym rows_alone.area) (stack-kept (length fs) (shape-nine a b fs) (16 * n) s₂ (omega (arith, kept₂.long)) (omega (arith, kept₂.long)))
 
-    pub rows-room : 16 * n ≤ length s₃
+    rows-room : 16 * n ≤ length s₃
     rows-room = omega (arith, kept₃.long, kept₂.long)
 
     faces-are : fs ≡ alone_faces a b (tets n s₀)
@@ -195,8 +176,8 @@ module _ (a b n : ℕ) (s₀ s₂ s₃ s₄ : List ℕ) (room : 88 * n ≤ lengt
     face-rows =
         let gs = map (λ f. flat (face_rows a b f)) fs in
         let d = drop (16 * n + 9 * length (map (λ f. flat (face_rows a b f)) fs)) s₂ in
-        ap₂ (λ (u : ℕ) (l : List ℕ). rows 3 (3 * u) l) number
-        (ap (drop (16 * n)) e₃ ∙ drop_at (take (16 * n) s₂) (flat gs ++ d) (16 * n) (length-take-le (16 * n) s₂ (omega (arith, kept₂.long)))
+        ap₂ (λ (u : ℕ) (l : List ℕ). rows 3 (3 * u) l) rows_alone.number
+        (ap (drop (16 * n)) rows_alone.area ∙ drop_at (take (16 * n) s₂) (flat gs ++ d) (16 * n) (length-take-le (16 * n) s₂ (omega (arith, kept₂.long)))
         ∙ ap (λ (l : List ℕ). l ++ d) (flat-nine a b fs))
         ∙ rows-flat (shape-three a b fs) d
         ∙ ap (rows_of_faces a b) faces-are

@@ -161,15 +161,16 @@ module _ (a b : ℕ) (ts : List Tet) (F : Fours ts) where
 
 -- ---- rows by number
 
-pub element-rows : (a b : ℕ) (s : List ℕ) (n : ℕ) → map (element_row_at a b s) (numbers 0 (7 * n)) ≡ spread (element_rows a b) (tets n s)
+-- the seven rows of the element i
+pub seven-rows : (a b : ℕ) (s : List ℕ) (i : ℕ) → map (element_row_at a b s) (numbers (7 * i) 7) ≡ element_rows a b (tet_at s i)
 unfolding numbers element_row_at subset_at
-element-rows a b s n = spread-numbers s (element_row_at a b s) 7 (element_rows a b) seven n
+seven-rows a b s i = seven
   where
     at : (i j k : ℕ) → j / 7 ≡ i → j % 7 ≡ k → element_row_at a b s j ≡ corners_of (subset_at (link_face a b (tet_at s i)) k) ++ (mark a b (vertices_of (tet_at s i)) ∷ [])
     at i j k p q = rw (p, q) refl
 
-    seven : (i : ℕ) → map (element_row_at a b s) (numbers (7 * i) 7) ≡ element_rows a b (tet_at s i)
-    seven i =
+    seven : map (element_row_at a b s) (numbers (7 * i) 7) ≡ element_rows a b (tet_at s i)
+    seven =
         rw (
           at i (7 * i) 0 (omega arith) (omega arith),
           at i (7 * i + 1) 1 (omega arith) (omega arith),
@@ -179,3 +180,7 @@ element-rows a b s n = spread-numbers s (element_row_at a b s) 7 (element_rows a
           at i (7 * i + 1 + 1 + 1 + 1 + 1) 5 (omega arith) (omega arith),
           at i (7 * i + 1 + 1 + 1 + 1 + 1 + 1) 6 (omega arith) (omega arith),
         ) refl
+
+pub element-rows : (a b : ℕ) (s : List ℕ) (n : ℕ) → map (element_row_at a b s) (numbers 0 (7 * n)) ≡ spread (element_rows a b) (tets n s)
+unfolding numbers element_row_at subset_at
+element-rows a b s n = spread-numbers s (element_row_at a b s) 7 (element_rows a b) (seven-rows a b s) n

@@ -1,6 +1,6 @@
 -- The sorted keys of the faces of elements behind them: of face rows in order the numbers dropped, or rows of triangles sorted by comparing.
 -- Assumes nothing.
-use Rattle.std.proofs.Common.{◌≡◌, ℕ, ◌+◌, ◌*◌, ◌<◌, ◌≤◌, Bool, true, false, List, [], ◌∷◌, ◌++◌, map, length, take, drop, sym, refl, ap, ◌∙◌, subst, true≢false, arith, length-drop, length-take-le, take-take, drop-drop, drop_at}
+use Rattle.std.proofs.Common.{◌≡◌, ℕ, ◌+◌, ◌*◌, ◌<◌, ◌≤◌, Bool, true, List, [], ◌∷◌, ◌++◌, map, length, take, drop, sym, refl, ap, ◌∙◌, subst, arith, length-drop, length-take-le, take-take, drop-drop, drop_at}
 use mathlib.Core.List.{map-append}
 use lib.Seq.{paste}
 use Rattle.mesh.specs.declared.element.Triple.{Triple}
@@ -99,10 +99,6 @@ key-rows n s =
     (λ z. count-sort-map (take 3) le_row eq_row z (map f ns))
     ∙ ap (sort le_row) (map-map (take 3) f ns ∙ sym (map-map (λ (g : Triple). corners_of (key_of g)) (face_at s) ns) ∙ ap (map (λ (g : Triple). corners_of (key_of g))) (faces-are s n) ∙ sym (map-map corners_of key_of (all_faces (tets n s))) ∙ sym (spread-faces (tets n s)))
 
--- none are promised
-pub tried-none : (n : ℕ) {s₀ s : List ℕ} → KeptBelow (4 * n) s₀ s → TriedKeys n s₀ s false
-tried-none n k = record { kept = k; sorted = λ e. absurd (true≢false (sym e)) }
-
 -- the numbers of the face rows dropped
 pub tried-counted : (n : ℕ) {s₀ s₁ s₂ : List ℕ} {r : Bool} → TriedFaces n s₀ s₁ r → r ≡ true → (rows 3 (4 * n) (drop (4 * n) s₂) ≡ map (take 3) (rows 4 (4 * n) (drop (4 * n) s₁))) × KeptBelow (4 * n) s₁ s₂ → TriedKeys n s₀ s₂ true
 tried-counted n {s₀} {s₁} {s₂} t e d = record {
@@ -110,20 +106,14 @@ tried-counted n {s₀} {s₁} {s₂} t e d = record {
   sorted = λ q. d.0 ∙ ap (map (take 3)) (t.sorted e) ∙ key-rows n s₀;
 }
 
-pub keys-counted : (n : ℕ) {s₀ s : List ℕ} {r : Bool} → TriedKeys n s₀ s r → r ≡ true → SortedKeys n s₀ s
-keys-counted n t e = record { kept = t.kept; sorted = t.sorted e }
-
 -- ---- by comparing
 
 module _ (n : ℕ) (s₀ s₁ s₂ s₃ : List ℕ) (room : 88 * n ≤ length s₀) (k : KeptBelow (4 * n) s₀ s₁) where
-  pub tried-room : 88 * n ≤ length s₁
-  tried-room = omega (arith, k.long)
-
   module _ (e₂ : s₂ ≡ filled (triangle_row_at s₁) 3 (4 * n) (4 * n) s₁) where
     kept₂ : KeptBelow (4 * n) s₁ s₂
     kept₂ = triangles-kept n s₁ (omega (arith, k.long)) s₂ e₂
 
-    pub keys-room : 4 * n ≤ length s₂
+    keys-room : 4 * n ≤ length s₂
     keys-room = omega (arith, kept₂.long, k.long)
 
     pub keys-compared : s₃ ≡ take (4 * n) s₂ ++ sorted_area (4 * n) 3 (drop (4 * n) s₂) → SortedKeys n s₀ s₃

@@ -1,8 +1,8 @@
 -- The link tests of an edge, call by call: what stands in the area, and that the answer is the definition's. Assumes nothing.
-use Rattle.std.proofs.Common.{◌≡◌, ℕ, ◌+◌, ◌-◌, ◌*◌, ◌<◌, ◌≤◌, Bool, true, false, ◌&&◌, leb, ◌≢◌, List, [], ◌++◌, map, length, get_or, take, drop, sym, refl, ap, ◌∙◌, subst, ap₂, arith, eq-eqb, ne_eqb, le-leb, leb-true}
+use Rattle.std.proofs.Common.{◌≡◌, ℕ, zero, suc, ◌+◌, ◌-◌, ◌*◌, ◌<◌, ◌≤◌, Bool, true, false, ◌&&◌, leb, ◌≢◌, List, [], ◌++◌, map, length, get_or, take, drop, sym, refl, ap, ◌∙◌, subst, ap₂, arith, eq-eqb, ne_eqb, leb-true, get_or-take, get_or-drop}
 use mathlib.Core.Bool.{and-false, and-true}
-use borrow.Author.Tests.{lt-leb}
 use Rattle.mesh.specs.declared.element.Tet.{Tet}
+use Rattle.mesh.specs.declared.link.area.Area.{Area}
 use Rattle.mesh.specs.Words.{zero_words, numbers}
 use Rattle.mesh.specs.Sort.{sort}
 use Rattle.mesh.specs.inside.Rows.{rows, le_row, sorted_area}
@@ -14,28 +14,28 @@ use Rattle.mesh.specs.Feature.{bits_of, shared, feature_ok, link_ok, link_fits, 
 use Rattle.mesh.specs.inside.Group.{runs, same_first}
 use Rattle.mesh.specs.Manifold.{Tested}
 use Rattle.mesh.specs.inside.Manifold.{filled, KeptBelow}
-use Rattle.mesh.specs.inside.LinkRows.{element_row_at, alone_faces, rows_of_faces, marked, meet_run, rim_by, curve_by, vertex_by, feature_run, EdgeRows}
+use Rattle.mesh.specs.inside.LinkRows.{element_row_at, alone_faces, rows_of_faces, marked, meet_run, rim_by, curve_by, vertex_by, feature_run}
+use Rattle.mesh.specs.inside.LinkAreas.{tets_of, Proper, Same, Kept, EdgeRows}
 use Rattle.mesh.proofs.Laws.Complex.Sets.{sub-elim, sub-intro}
 use Rattle.mesh.proofs.Laws.Bools.{and_left, and_right}
 use Rattle.mesh.proofs.Laws.Manifold.Fill.{fill-kept, filled-rows}
-use Rattle.mesh.proofs.Laws.Manifold.Growth.{kept-both}
+use Rattle.mesh.proofs.Laws.Manifold.Growth.{kept_self, kept-both}
 use Rattle.mesh.proofs.Laws.Manifold.Steps.{sort-kept, sort-from-rows}
 use Rattle.mesh.proofs.Laws.Euler.Areas.{tets-kept}
 use Rattle.mesh.proofs.Laws.LinkRows.Elements.{fours, interior-runs, element-rows}
 use Rattle.mesh.proofs.Laws.LinkRows.Boundary.{boundary-runs}
 use Rattle.mesh.proofs.Laws.LinkRows.Features.{feature-runs}
 use Rattle.mesh.proofs.Laws.LinkRows.Self.{link_ok-self}
-use Rattle.mesh.proofs.Laws.LinkRows.Walk.{row_word}
 
 -- ---- interior
 
 module _ (a b n : ℕ) (s₀ s₁ s₂ : List ℕ) (room : 88 * n ≤ length s₀) (e₁ : s₁ ≡ filled (element_row_at a b s₀) 4 (4 * n) (7 * n) s₀) where
-  kept₁ : KeptBelow (4 * n) s₀ s₁
+  element-kept : KeptBelow (4 * n) s₀ s₁
   unfolding element_row_at
-  kept₁ = fill-kept (element_row_at a b s₀) 4 (λ i. refl) (4 * n) s₀ (omega arith) (7 * n) s₁ (omega arith) e₁
+  element-kept = fill-kept (element_row_at a b s₀) 4 (λ i. refl) (4 * n) s₀ (omega arith) (7 * n) s₁ (omega arith) e₁
 
-  pub element-room : 4 * n ≤ length s₁
-  element-room = omega (arith, kept₁.long)
+  element-room : 4 * n ≤ length s₁
+  element-room = omega (arith, element-kept.long)
 
   listed : rows 4 (7 * n) (drop (4 * n) s₁) ≡ map (element_row_at a b s₀) (numbers 0 (7 * n))
   unfolding element_row_at
@@ -43,25 +43,31 @@ module _ (a b n : ℕ) (s₀ s₁ s₂ : List ℕ) (room : 88 * n ≤ length s�
 
   module _ (e₂ : s₂ ≡ take (4 * n) s₁ ++ sorted_area (7 * n) 4 (drop (4 * n) s₁)) where
     pub interior-kept : KeptBelow (4 * n) s₀ s₂
-    interior-kept = kept-both (4 * n) s₀ s₁ s₂ kept₁ (sort-kept (4 * n) (7 * n) 4 s₁ s₂ element-room e₂)
+    interior-kept = kept-both (4 * n) s₀ s₁ s₂ element-kept (sort-kept (4 * n) (7 * n) 4 s₁ s₂ element-room e₂)
 
     pub interior-answer : every (λ t. nodup (vertices_of t)) (tets n s₀) ≡ true → every (meet_run 3) (runs (same_first 3) (rows 4 (7 * n) (drop (4 * n) s₂))) ≡ interior_ok a b (tets n s₀)
     interior-answer d =
         ap (λ (l : List (List ℕ)). every (meet_run 3) (runs (same_first 3) l))
-        (sort-from-rows (4 * n) (7 * n) 4 s₁ s₂ element-room e₂ (omega arith) (omega (arith, kept₁.long)) ∙ ap (sort le_row) (listed ∙ element-rows a b s₀ n))
+        (sort-from-rows (4 * n) (7 * n) 4 s₁ s₂ element-room e₂ (omega arith) (omega (arith, element-kept.long)) ∙ ap (sort le_row) (listed ∙ element-rows a b s₀ n))
         ∙ interior-runs a b (tets n s₀) (fours (tets n s₀) d)
 
 -- ---- boundary and features
 
-module _ (a b n m : ℕ) (s : List ℕ) (r : EdgeRows a b n m s) where
-  pub boundary-answer : every (meet_run 2) (runs (same_first 2) (rows 3 m (drop (16 * n) s))) ≡ boundary_ok a b (tets n s)
-  boundary-answer = ap (λ (l : List (List ℕ)). every (meet_run 2) (runs (same_first 2) l)) r.result ∙ boundary-runs a b (tets n s) (fours (tets n s) r.distinct)
+module _ (a b m : ℕ) (x : Area) (r : EdgeRows a b m x) where
+  pub boundary-answer : every (meet_run 2) (runs (same_first 2) (rows 3 m (drop (16 * x.n) x.words.now))) ≡ boundary_ok a b (tets_of x)
+  boundary-answer = ap (λ (l : List (List ℕ)). every (meet_run 2) (runs (same_first 2) l)) r.result ∙ boundary-runs a b (tets_of x) (fours (tets_of x) r.distinct)
 
-  pub feature-answer : (stratum : ℕ → ℕ) (p : Bool) → sub (bits_of (stratum a)) (bits_of (stratum b)) ≡ true → p ≡ marked 2 3 (rows 3 m (drop (16 * n) s))
-      → every (feature_run stratum a b p) (runs (same_first 2) (rows 3 m (drop (16 * n) s))) ≡ feature_ok stratum a b (boundary_about a b (tets n s))
+  pub feature-answer : (stratum : ℕ → ℕ) (p : Bool) → sub (bits_of (stratum a)) (bits_of (stratum b)) ≡ true → p ≡ marked 2 3 (rows 3 m (drop (16 * x.n) x.words.now))
+      → every (feature_run stratum a b p) (runs (same_first 2) (rows 3 m (drop (16 * x.n) x.words.now))) ≡ feature_ok stratum a b (boundary_about a b (tets_of x))
   feature-answer stratum p h e =
       ap₂ (λ (q : Bool) (l : List (List ℕ)). every (feature_run stratum a b q) (runs (same_first 2) l)) (e ∙ ap (marked 2 3) r.result) r.result
-      ∙ feature-runs stratum a b r.apart (tets n s) (fours (tets n s) r.distinct) (sub-elim (bits_of (stratum a)) (bits_of (stratum b)) h)
+      ∙ feature-runs stratum a b r.apart (tets_of x) (fours (tets_of x) r.distinct) (sub-elim (bits_of (stratum a)) (bits_of (stratum b)) h)
+
+-- the first words of the first row
+row_word : (s : List ℕ) (p w k i : ℕ) → 0 < k → i < w → get_or (get_or (rows w k (drop p s)) 0 []) i 0 ≡ get_or s (p + i) 0
+unfolding rows
+row_word s p w (suc k) i h l = get_or-take w (drop p s) i 0 l ∙ get_or-drop p s i 0
+row_word s p w zero i h l = absurd (omega arith)
 
 -- one vertex
 pub vertex-exact : (stratum : ℕ → ℕ) (a b x ma mb mx : ℕ) (ab oa ob both oa' ob' both' r : Bool) → ma ≡ stratum a → mb ≡ stratum b → mx ≡ stratum x → oa ≡ oa' → ob ≡ ob' → both ≡ both'
@@ -97,32 +103,40 @@ module _ (stratum : ℕ → ℕ) (a b : ℕ) (ab : Bool) (s : List ℕ) (p k : �
 
 -- ---- the three tests
 
-module _ (a b n : ℕ) {s₀ s₁ : List ℕ} (room : 88 * n ≤ length s₀) (d : every (λ t. nodup (vertices_of t)) (tets n s₀) ≡ true) (k : KeptBelow (4 * n) s₀ s₁) where
-  pub kept-room : 88 * n ≤ length s₁
-  kept-room = omega (arith, k.long)
+pub same-self : (x : Area) → Same x x
+same-self x = record { lent = refl; count = refl }
 
-  pub kept-distinct : every (λ t. nodup (vertices_of t)) (tets n s₁) ≡ true
-  kept-distinct = ap (every (λ t. nodup (vertices_of t))) (tets-kept n k) ∙ d
+pub kept-self : (x : Area) → Kept x x
+kept-self x = record { same = same-self x; elements = kept_self (4 * x.n) x.words.now }
 
-  pub edge-rows : {m : ℕ} → n ≤ 16384 → a ≢ b → (rows 3 m (drop (16 * n) s₁) ≡ sort le_row (rows_of_faces a b (alone_faces a b (tets n s₀)))) → m ≤ 12 * n → EdgeRows a b n m s₁
-  edge-rows f ab e g = record {
-    few = f;
-    fewer = g;
-    room = kept-room;
-    apart = ab;
-    distinct = kept-distinct;
-    result = e ∙ ap (λ (ts : List Tet). sort le_row (rows_of_faces a b (alone_faces a b ts))) (sym (tets-kept n k));
+pub same-both : {x y z : Area} → Same x y → Same y z → Same x z
+same-both s t = record { lent = t.lent ∙ s.lent; count = t.count ∙ s.count }
+
+module _ {x y : Area} (k : Kept x y) where
+  -- the elements are those at the start
+  pub elements-kept : tets_of y ≡ tets_of x
+  elements-kept = ap (λ (m : ℕ). tets m y.words.now) k.same.count ∙ tets-kept x.n k.elements
+
+  pub proper-kept : Proper x → Proper y
+  proper-kept d = ap (every (λ t. nodup (vertices_of t))) elements-kept ∙ d
+
+  pub kept-on : {z : Area} → Kept y z → Kept x z
+  kept-on {z} l = record {
+    same = same-both k.same l.same;
+    elements = kept-both (4 * x.n) x.words.now y.words.now z.words.now k.elements (subst (λ (m : ℕ). KeptBelow (4 * m) y.words.now z.words.now) k.same.count l.elements);
   }
 
-  -- the tests later on are those of the elements at the start
-  pub interior-start : (p : Bool) → p ≡ interior_ok a b (tets n s₁) → p ≡ interior_ok a b (tets n s₀)
-  interior-start p e = e ∙ ap (interior_ok a b) (tets-kept n k)
+  -- a test after that is one of the elements at the start
+  pub later : (test : List Tet → Bool) {z : Area} {r : Bool} → (r ≡ test (tets_of y)) × Kept y z → (r ≡ test (tets_of x)) × Kept x z
+  later test h = (h.0 ∙ ap test elements-kept, kept-on h.1)
 
-  pub boundary_start : (p : Bool) → p ≡ boundary_ok a b (tets n s₁) → p ≡ boundary_ok a b (tets n s₀)
-  boundary_start p e = e ∙ ap (boundary_ok a b) (tets-kept n k)
-
-  pub feature-start : (stratum : ℕ → ℕ) (p : Bool) → p ≡ feature_ok stratum a b (boundary_about a b (tets n s₁)) → p ≡ feature_ok stratum a b (boundary_about a b (tets n s₀))
-  feature-start stratum p e = e ∙ ap (λ (ts : List Tet). feature_ok stratum a b (boundary_about a b ts)) (tets-kept n k)
+  pub edge-rows : (a b m : ℕ) → Proper x → a ≢ b → rows 3 m (drop (16 * x.n) y.words.now) ≡ sort le_row (rows_of_faces a b (alone_faces a b (tets_of x))) → m ≤ 12 * x.n → EdgeRows a b m y
+  edge-rows a b m d ab e g = record {
+    fewer = (let c = k.same.count in omega arith);
+    apart = ab;
+    distinct = proper-kept d;
+    result = ap (λ (i : ℕ). rows 3 m (drop (16 * i) y.words.now)) k.same.count ∙ e ∙ ap (λ (ts : List Tet). sort le_row (rows_of_faces a b (alone_faces a b ts))) (sym elements-kept);
+  }
 
 module _ (stratum : ℕ → ℕ) (a b : ℕ) (ts : List Tet) where
   abbrev surface : Bool
@@ -143,18 +157,6 @@ passes-self stratum a b ts d e =
     (sym (rw (sub-intro (bits_of (stratum a)) (bits_of (stratum a)) (λ x m. m)) (link_ok-self stratum a ts (fours ts d))))
 
 -- ---- room
-
-pub fits-no : (n : ℕ) (s : List ℕ) → 16384 < n → false ≡ link_fits n s
-unfolding link_fits
-fits-no n s h = sym (rw (lt-leb n 16384 h) refl)
-
-pub fits-short : (n : ℕ) (s : List ℕ) → length s < 88 * n → false ≡ link_fits n s
-unfolding link_fits
-fits-short n s h = sym (rw (lt-leb (88 * n) (length s) h) (and-false (leb n 16384)))
-
-pub fits-test : (n : ℕ) (s : List ℕ) → n ≤ 16384 → 88 * n ≤ length s → every (λ t. nodup (vertices_of t)) (tets n s) ≡ link_fits n s
-unfolding link_fits
-fits-test n s h k = sym (rw (le-leb n 16384 h, le-leb (88 * n) (length s) k) refl)
 
 pub fits-is : (n : ℕ) (s : List ℕ) → link_fits n s ≡ true → (n ≤ 16384) × (88 * n ≤ length s) × (every (λ t. nodup (vertices_of t)) (tets n s) ≡ true)
 unfolding link_fits

@@ -1,6 +1,5 @@
 -- Rows sorted, each once, with zeros behind them; and the rows of the bad elements behind these. Assumes nothing.
 use Rattle.std.proofs.Common.{◌≡◌, ℕ, ◌+◌, ◌-◌, ◌*◌, ◌<◌, ◌≤◌, true, false, ltb, leb, List, [], ◌∷◌, ◌++◌, map, length, take, drop, sym, refl, ap, ◌∙◌, ap₂, append_assoc, arith, length-append, length-drop, length-take-le, drop-drop, take_at, take-add, drop_at, lt-ltb, le-leb, leb-true}
-use borrow.Author.Tests.{lt-leb}
 use Rattle.mesh.specs.declared.element.Tet.{Tet}
 use Rattle.mesh.specs.Words.{zero_words, numbers, flat}
 use Rattle.mesh.specs.Sort.{sort, unique}
@@ -150,14 +149,6 @@ module _ (w c : ℕ) (row : List ℕ → ℕ → List ℕ) (f : Tet → List (Li
           ∙ append_assoc (take (4 * n) s₀) (flat (map vertices_of ts)) (flat (set_of (spread f ts)) ++ zero_words (length s₀ - (4 * n + length (flat (map vertices_of ts)) + length (flat (set_of (spread f ts))))))
 
 -- ---- the whole
-
-pub fits-no : (n m : ℕ) → 65536 < n → false ≡ list_fits n m
-unfolding list_fits
-fits-no n m h = sym (rw (lt-leb n 65536 h) refl)
-
-pub fits-test : (n m : ℕ) → n ≤ 65536 → leb (32 * n) m ≡ list_fits n m
-unfolding list_fits
-fits-test n m h = sym (rw (le-leb n 65536 h) refl)
 
 pub fits-is : (n m : ℕ) → list_fits n m ≡ true → (n ≤ 65536) × (32 * n ≤ m)
 unfolding list_fits

@@ -1,25 +1,46 @@
 -- The listings, call by call: the bad elements, the rows behind them, and that the whole is the definition. Assumes nothing.
-use Rattle.std.proofs.Common.{◌≡◌, ℕ, ◌+◌, ◌-◌, ◌*◌, ◌<◌, ◌≤◌, true, List, ◌++◌, map, length, take, drop, refl, arith, mul-le-mul_left}
+use Rattle.std.proofs.Common.{◌≡◌, ℕ, ◌+◌, ◌-◌, ◌*◌, ◌<◌, ◌≤◌, true, List, ◌++◌, map, length, take, drop, refl, ap, arith, mul-le-mul_left}
 use Rattle.geometry.specs.declared.point.Point.{Point}
 use Rattle.mesh.specs.declared.element.Tet.{Tet}
 use Rattle.mesh.specs.Words.{zero_words, numbers, flat}
 use Rattle.mesh.specs.inside.Rows.{rows}
+use Rattle.mesh.specs.inside.Intake.{tet_at}
 use Rattle.mesh.specs.Complex.{keep}
 use Rattle.mesh.specs.Element.{tets, vertices_of}
 use Rattle.mesh.specs.inside.Manifold.{filled, KeptBelow}
 use Rattle.mesh.specs.inside.Euler.{spread, edge_rows, triangle_rows, edge_row_at, triangle_row_at}
-use Rattle.mesh.proofs.Laws.Euler.Areas.{edge-rows, triangle-rows}
-use Rattle.mesh.specs.inside.List.{bad_in, set_of, list_fits, Listing, listed_in, stacked, Kind}
+use Rattle.mesh.proofs.Laws.Euler.Areas.{edge-rows, triangle-rows, edge_row-told, triangle_row-told}
+use Rattle.mesh.specs.inside.List.{bad_in, set_of, list_fits, Listing, listed_in, stacked, own_rows, Kind, bad_edges, bad_faces}
 use Rattle.mesh.proofs.Laws.List.Bad.{gathered-few, gathered-kept}
 use Rattle.mesh.proofs.Laws.List.Rows.{part_room, rows-room, rows-number, rows-area, fits-is, in-yes}
 
-pub edges : Kind 2 6 edge_row_at edge_rows
-unfolding edge_row_at
-edges = record { some = omega arith; wide = λ i. omega arith; size = λ s j. refl; numbered = edge-rows }
+-- the rows of one element are its edges, and its faces
+edges-own : own_rows edge_row_at 6 ≡ edge_rows
+unfolding edge_row_at tet_at numbers
+edges-own = refl
 
-pub faces : Kind 3 4 triangle_row_at triangle_rows
+faces-own : own_rows triangle_row_at 4 ≡ triangle_rows
+unfolding triangle_row_at tet_at numbers
+faces-own = refl
+
+pub edges : Kind 2 6 edge_row_at (own_rows edge_row_at 6)
+unfolding edge_row_at
+edges = rw edges-own (record { some = omega arith; wide = λ i. omega arith; size = λ s j. refl; told = edge_row-told; numbered = edge-rows })
+
+pub faces : Kind 3 4 triangle_row_at (own_rows triangle_row_at 4)
 unfolding triangle_row_at
-faces = record { some = omega arith; wide = λ i. omega arith; size = λ s j. refl; numbered = triangle-rows }
+faces = rw faces-own (record { some = omega arith; wide = λ i. omega arith; size = λ s j. refl; told = triangle_row-told; numbered = triangle-rows })
+
+-- and so the listings are those of the definitions
+module _ (ps : List Point) (n : ℕ) (s : List ℕ) where
+  abbrev pub listed : (Tet → List (List ℕ)) → Listing
+  listed f = listed_in (λ ts. set_of (spread f (keep (bad_in ps) ts))) ps n s
+
+  pub edges-listed : listed (own_rows edge_row_at 6) ≡ listed_in (bad_edges ps) ps n s
+  edges-listed = ap listed edges-own
+
+  pub faces-listed : listed (own_rows triangle_row_at 4) ≡ listed_in (bad_faces ps) ps n s
+  faces-listed = ap listed faces-own
 
 -- no more than 24 rows an element
 pub each-few : {w c : ℕ} {row : List ℕ → ℕ → List ℕ} {f : Tet → List (List ℕ)} (q : Kind w c row f) (k : ℕ) → c * k ≤ 24 * k

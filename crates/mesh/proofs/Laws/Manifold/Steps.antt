@@ -1,18 +1,14 @@
 -- Words of an area that are kept, rows that are written, sorted and cleared behind them, and scans over runs. Assumes nothing.
-use Rattle.std.proofs.Common.{◌≡◌, ℕ, suc, ◌+◌, ◌-◌, ◌*◌, ◌/◌, ◌%◌, ◌<◌, ◌≤◌, min, max, Bool, true, false, cond, ◌&&◌, eqb, ltb, leb, List, [], ◌∷◌, ◌++◌, length, get_or, take, drop, sym, ap, ◌∙◌, ap₂, le_refl, arith, length-append, length-drop, drop_of_length-le, length-take-le, drop-cons, get_or-take, take-take, drop-drop, take_at, get_or-append-add, drop_at, lt-ltb, le-leb}
+use Rattle.std.proofs.Common.{◌≡◌, ℕ, suc, ◌+◌, ◌-◌, ◌*◌, ◌/◌, ◌%◌, ◌<◌, ◌≤◌, min, max, Bool, true, false, cond, ltb, leb, List, [], ◌∷◌, ◌++◌, length, get_or, take, drop, sym, ap, ◌∙◌, ap₂, le_refl, arith, length-append, length-drop, length-take-le, get_or-take, take-take, take_at, get_or-append-add, drop_at, lt-ltb, le-leb}
 use lib.ListN.{length-replicate}
 use Rattle.mesh.specs.Words.{word_at, zero_words}
 use Rattle.mesh.specs.Sort.{sort}
 use Rattle.mesh.specs.inside.Sort.{leading}
-use Rattle.mesh.specs.inside.Rows.{rows, le_row, eq_row, fit_rows, sorted_area, run, run_length}
-use Rattle.mesh.specs.Tests.{every}
+use Rattle.mesh.specs.inside.Rows.{rows, le_row, eq_row, fit_rows, sorted_area, run}
 use Rattle.mesh.proofs.Laws.Bools.{and_intro}
 use Rattle.mesh.proofs.Laws.Rows.{rows_same}
 use Rattle.mesh.proofs.Laws.Areas.{rows-sorted, length-sorted}
-use Rattle.mesh.proofs.Laws.Runs.{length-is}
-use Rattle.mesh.specs.inside.Group.{runs, same_first}
-use Rattle.mesh.specs.inside.Manifold.{corner_at, edge_row, link_row, two, KeptBelow}
-use Rattle.mesh.proofs.Laws.Manifold.RowRuns.{run-first, run-turn}
+use Rattle.mesh.specs.inside.Manifold.{corner_at, edge_row, link_row, KeptBelow}
 use Rattle.mesh.proofs.Laws.Parts.{zero_word}
 
 -- ---- words that are kept
@@ -62,39 +58,7 @@ module _ (a : ℕ) (s s' : List ℕ) (h : a ≤ length s) (e : s' ≡ take a s +
       ∙ get_or-append-add (take a s) (zero_words (length s - a)) x 0
       ∙ zero_word (length s - a) x
 
--- ---- a scan of runs
-
-module _ (test : List (List ℕ) → Bool) (kw : ℕ) (rs : List (List ℕ)) (first : ℕ) where
-  runs-at : first < length rs
-      → every test (runs (same_first kw) (drop first rs))
-      ≡ (test (take (run kw (drop first rs)) (drop first rs)) && every test (runs (same_first kw) (drop (first + run kw (drop first rs)) rs)))
-  runs-at h = go (drop first rs) (drop-cons rs first [] h) ∙ ap (λ (u : List (List ℕ)). test (take (run kw (drop first rs)) (drop first rs)) && every test (runs (same_first kw) u)) (drop-drop (run kw (drop first rs)) first rs)
-    where
-      go : (l : List (List ℕ)) → l ≡ get_or rs first [] ∷ drop (suc first) rs → every test (runs (same_first kw) l) ≡ (test (take (run kw l) l) && every test (runs (same_first kw) (drop (run kw l) l)))
-      go l e = rw e (ap (every test) (run-turn kw (get_or rs first []) (drop (suc first) rs)))
-
-  pub run-some : first < length rs → 0 < run kw (drop first rs)
-  run-some h = go (drop first rs) (drop-cons rs first [] h)
-    where
-      go : (l : List (List ℕ)) → l ≡ get_or rs first [] ∷ drop (suc first) rs → 0 < run kw l
-      go l e = rw e (run-first kw (get_or rs first []) (drop (suc first) rs))
-
-  module _ (k : ℕ) (q : k ≡ run kw (drop first rs)) where
-    pub runs-turn : first < length rs → every test (runs (same_first kw) (drop first rs)) ≡ every test (runs (same_first kw) rs) → test (take k (drop first rs)) ≡ true
-        → every test (runs (same_first kw) (drop (first + k) rs)) ≡ every test (runs (same_first kw) rs)
-    runs-turn h e t =
-        sym (runs-at h ∙ ap (λ (u : ℕ). test (take u (drop first rs)) && every test (runs (same_first kw) (drop (first + u) rs))) (sym q)
-        ∙ ap (λ (b : Bool). b && every test (runs (same_first kw) (drop (first + k) rs))) t) ∙ e
-
-    pub runs-fail : first < length rs → every test (runs (same_first kw) (drop first rs)) ≡ every test (runs (same_first kw) rs) → test (take k (drop first rs)) ≡ false
-        → false ≡ every test (runs (same_first kw) rs)
-    runs-fail h e t =
-        sym (runs-at h ∙ ap (λ (u : ℕ). test (take u (drop first rs)) && every test (runs (same_first kw) (drop (first + u) rs))) (sym q)
-        ∙ ap (λ (b : Bool). b && every test (runs (same_first kw) (drop (first + k) rs))) t) ∙ e
-
-  pub runs-end : length rs ≤ first → every test (runs (same_first kw) (drop first rs)) ≡ every test (runs (same_first kw) rs) → true ≡ every test (runs (same_first kw) rs)
-  unfolding runs
-  runs-end h e = sym (ap (λ (l : List (List ℕ)). every test (runs (same_first kw) l)) (drop_of_length-le rs {i = first} h)) ∙ e
+-- ---- the length of a run
 
 pub leading-few : {A : Type 0} (p : A → Bool) (l : List A) → leading p l ≤ length l
 unfolding leading
@@ -110,15 +74,6 @@ pub run-few : (kw : ℕ) (l : List (List ℕ)) → run kw l ≤ length l
 unfolding run
 run-few kw [] = omega arith
 run-few kw (r ∷ l) = leading-few (λ q. eq_row (take kw r) (take kw q)) (r ∷ l)
-
--- the run that `run_from` measures
-pub run_is : (first n w kw : ℕ) (s : List ℕ) → 0 < w → n * w ≤ length s → kw ≤ w → run_length first n w kw s ≡ run kw (drop first (rows w n s))
-unfolding fit_rows
-run_is first n w kw s h r k = length-is first n w kw s (and_intro (ltb 0 w) (leb (n * w) (length s)) (lt-ltb 0 w h) (le-leb (n * w) (length s) r)) k
-
--- two of a kind: the run has the length 2
-pub two_is : (kw : ℕ) (l : List (List ℕ)) (k : ℕ) → k ≡ run kw l → two (take k l) ≡ eqb k 2
-two_is kw l k e = ap (λ (m : ℕ). eqb m 2) (length-take-le k l (omega (arith, run-few kw l)))
 
 -- ---- rows listed
 

@@ -1,7 +1,5 @@
 -- The test of a whole surface, call by call: what stands in the area, and that the answer is the definition's. Assumes nothing.
 use Rattle.std.proofs.Common.{◌≡◌, ℕ, zero, suc, ◌+◌, ◌-◌, ◌*◌, ◌<◌, ◌≤◌, Bool, true, false, not, ◌&&◌, ltb, leb, List, [], ◌∷◌, ◌++◌, map, length, take, drop, sym, refl, ap, ◌∙◌, ap₂, arith, get_or-drop, ltb-true, lt-ltb, le-leb, leb-true}
-use mathlib.Core.Bool.{and-false}
-use borrow.Author.Tests.{lt-leb}
 use Rattle.mesh.specs.declared.element.Triple.{Triple}
 use Rattle.mesh.specs.Words.{word_at, zero_words, numbers, flat}
 use Rattle.mesh.specs.Sort.{sort}
@@ -20,14 +18,6 @@ use Rattle.mesh.proofs.Laws.Manifold.Growth.{kept-both}
 use Rattle.mesh.proofs.Laws.Manifold.Steps.{word_below, rows-below, kept_less, sort-kept, sort-from-rows, clear_kept, clear_zero}
 
 -- ---- room
-
-pub fits-no : (n : ℕ) (s : List ℕ) → 65536 < n → false ≡ surface_fits n s
-unfolding surface_fits
-fits-no n s h = sym (rw (lt-leb n 65536 h) refl)
-
-pub fits-short : (n : ℕ) (s : List ℕ) → length s < 27 * n → false ≡ surface_fits n s
-unfolding surface_fits
-fits-short n s h = sym (rw (lt-leb (27 * n) (length s) h) (and-false (leb n 65536)))
 
 pub fits-test : (n : ℕ) (s : List ℕ) → n ≤ 65536 → 27 * n ≤ length s → every (λ x. ltb x (length s - 15 * n)) (take (3 * n) s) ≡ surface_fits n s
 unfolding surface_fits
@@ -144,7 +134,7 @@ module _ (n : ℕ) (s₀ : List ℕ) (few : n ≤ 65536) (room : 27 * n ≤ leng
                 ap₂ (λ (b : ℕ) (l : List (List ℕ)). every (λ r. pair_below b (link_pair r)) l) e rows-ready
                 ∙ every-sort le_row (λ r. pair_below (length s₀ - 15 * n) (link_pair r)) (map (link_row s₀) (numbers 0 (3 * n)))
                 ∙ links-below s₀ n (length s₀ - 15 * n) (omega arith) below;
-            fresh = λ x. omega (arith, clear_zero (5 * (3 * n)) s₂ s₃ marks-room e₃ x);
+            fresh = clear_zero (5 * (3 * n)) s₂ s₃ marks-room e₃;
           }
 
       pub links-answer : every cycle (runs (same_first 1) (rows 4 (3 * n) (drop (3 * n) s₃))) ≡ every (λ v. one_cycle (surface_link v (triples n s₀))) (all_corners (triples n s₀))

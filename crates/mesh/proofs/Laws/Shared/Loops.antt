@@ -1,6 +1,6 @@
 -- The loops that list the rows of faces: over the faces of an element, and over the elements. Assumes nothing.
-use Rattle.std.proofs.Common.{◌≡◌, ℕ, suc, ◌+◌, ◌*◌, ◌<◌, ◌≤◌, List, [], ◌∷◌, ◌++◌, map, length, take, set, sym, refl, ap, ◌∙◌, subst, ap₂, append_assoc, append-nil, add-one, arith, length-take-le, take_all, take-suc}
-use lib.Seq.{paste, sets-eq}
+use Rattle.std.proofs.Common.{◌≡◌, ℕ, suc, ◌+◌, ◌*◌, ◌<◌, ◌≤◌, List, [], ◌∷◌, ◌++◌, map, length, take, sym, refl, ap, ◌∙◌, subst, ap₂, append_assoc, append-nil, add-one, arith, length-take-le, take_all, take-suc}
+use lib.Seq.{paste}
 use Rattle.geometry.specs.declared.point.Point.{Point}
 use Rattle.mesh.specs.declared.element.Triple.{Triple}
 use Rattle.mesh.specs.declared.element.Tet.{Tet}
@@ -10,20 +10,11 @@ use Rattle.mesh.specs.Words.{numbers}
 use Rattle.mesh.specs.inside.Manifold.{filled, KeptBelow}
 use Rattle.mesh.specs.inside.List.{stacked, Pushed}
 use Rattle.mesh.proofs.Laws.Rows.{Shape, none, more}
-use Rattle.mesh.proofs.Laws.Manifold.Fill.{fill_start, fill-turn, fill-kept}
+use Rattle.mesh.proofs.Laws.Manifold.Fill.{fill_start, fill-turn}
 use Rattle.mesh.proofs.Laws.Intake.Reads.{length-tets, tets-at}
 use Rattle.mesh.proofs.Laws.Euler.Areas.{tet-kept}
 use Rattle.mesh.proofs.Laws.List.Push.{push-start, push_kept, push-more, shape-append}
 use Rattle.mesh.specs.inside.Shared.{owned_row, bad_mark, owned_from}
-
-pub put_five : (s : List ℕ) (p a b c d e : ℕ) → p + 5 ≤ length s
-    → set (set (set (set (set s p a) (p + 1) b) (p + 2) c) (p + 3) d) (p + 4) e ≡ paste s p (a ∷ b ∷ c ∷ d ∷ e ∷ []) 5
-put_five s p a b c d e h =
-    let e₁ : p + 1 ≡ suc p = omega arith in
-    let e₂ : p + 2 ≡ suc (suc p) = omega arith in
-    let e₃ : p + 3 ≡ suc (suc (suc p)) = omega arith in
-    let e₄ : p + 4 ≡ suc (suc (suc (suc p))) = omega arith in
-    rw (e₁, e₂, e₃, e₄) (sets-eq (a ∷ b ∷ c ∷ d ∷ e ∷ []) s p h)
 
 -- ---- the faces of an element
 
@@ -37,9 +28,6 @@ module _ (i mark : ℕ) (t : Tet) (p : ℕ) (s₀ : List ℕ) (room : p + 20 ≤
   faces-start = record { bound = omega arith; area = fill_start (λ j. owned_row i mark (face_of t j)) 5 (λ j. refl) p s₀ (omega arith) }
 
   module _ {s : List ℕ} {k : ℕ} (g : Faces i mark t p s₀ s k) where
-    pub faces-kept : KeptBelow p s₀ s
-    faces-kept = fill-kept (λ j. owned_row i mark (face_of t j)) 5 (λ j. refl) p s₀ (omega arith) k s (omega (arith, g.bound)) g.area
-
     pub faces-turn : k < 4 → {f h : Triple} → f ≡ face_of t k → h ≡ key_of f → (s' : List ℕ) → s' ≡ paste s (p + 5 * k) (h.a ∷ h.b ∷ h.c ∷ i ∷ mark ∷ []) 5 → Faces i mark t p s₀ s' (k + 1)
     faces-turn l {f} {h} e q s' r = record {
       bound = omega arith;

@@ -1,7 +1,6 @@
 -- The shared faces listed in one area, call by call: the whole is the definition. Assumes nothing.
-use Rattle.std.proofs.Common.{◌≡◌, ℕ, ◌+◌, ◌-◌, ◌*◌, ◌<◌, ◌≤◌, true, false, leb, List, ◌++◌, map, length, take, drop, sym, refl, ap, ◌∙◌, ap₂, append_assoc, arith, length-drop, take_at, le-leb, leb-true}
+use Rattle.std.proofs.Common.{◌≡◌, ℕ, ◌+◌, ◌-◌, ◌*◌, ◌<◌, ◌≤◌, true, false, leb, List, ◌++◌, map, length, take, drop, refl, ap, ◌∙◌, ap₂, append_assoc, arith, length-drop, take_at, leb-true}
 use lib.Seq.{paste, length-paste, length_paste_head}
-use borrow.Author.Tests.{lt-leb}
 use Rattle.geometry.specs.declared.point.Point.{Point}
 use Rattle.mesh.specs.Words.{zero_words, flat}
 use Rattle.mesh.specs.Sort.{sort}
@@ -19,14 +18,6 @@ use Rattle.mesh.specs.inside.Shared.{shared_faces, shared_row, shared_fits, Shar
 use Rattle.mesh.proofs.Laws.Shared.Runs.{runs-shared}
 use Rattle.mesh.proofs.Laws.Shared.Loops.{shape-owned}
 use Rattle.mesh.proofs.Laws.Shared.Scan.{shape-runs}
-
-pub fits-no : (n m : ℕ) → 65536 < n → false ≡ shared_fits n m
-unfolding shared_fits
-fits-no n m h = sym (rw (lt-leb n 65536 h) refl)
-
-pub fits-test : (n m : ℕ) → n ≤ 65536 → leb (44 * n) m ≡ shared_fits n m
-unfolding shared_fits
-fits-test n m h = sym (rw (le-leb n 65536 h) refl)
 
 pub fits-is : (n m : ℕ) → shared_fits n m ≡ true → (n ≤ 65536) × (44 * n ≤ m)
 unfolding shared_fits

@@ -35,9 +35,6 @@ module _ (ps : List Point) (limit : Float) (t : Tet) (b : ℕ) (s₀ : List ℕ)
   edges-start = record { bound = omega arith; few = omega arith; pushed = subst (λ (l : List (List ℕ)). Pushed l 4 b s₀ s₀ 0) (no_rows ps limit) (push-start 4 b s₀) }
 
   module _ {s : List ℕ} {k j : ℕ} (g : Edges ps limit t b s₀ s k j) where
-    pub edges-kept : KeptBelow b s₀ s
-    edges-kept = push_kept (shape-short ps limit (take j (edges_of t))) (omega arith) g.pushed (omega (arith, g.few, g.bound))
-
     pub edges-turn : j < 6 → {x e : Pair} → x ≡ ends_at t j → e ≡ rise x → {s' : List ℕ} {m : ℕ} → Pushed (short_rows ps limit (e ∷ [])) 4 (b + 4 * k) s s' m
         → Edges ps limit t b s₀ s' (k + m) (j + 1)
     edges-turn h {x} {e} p q {s'} {m} r =
@@ -51,9 +48,6 @@ module _ (ps : List Point) (limit : Float) (t : Tet) (b : ℕ) (s₀ : List ℕ)
               subst (λ (l : List (List ℕ)). Pushed l 4 b s₀ s' (k + m)) (sym (ap (short_rows ps limit) next ∙ short-append ps limit (take j (edges_of t)) (e ∷ [])))
               (push-more (shape-short ps limit (take j (edges_of t))) (omega arith) g.pushed r);
         }
-
-    pub edges-end : 6 ≤ j → Pushed (short_rows ps limit (edges_of t)) 4 b s₀ s k
-    edges-end h = subst (λ (l : List Pair). Pushed (short_rows ps limit l) 4 b s₀ s k) (take_all j (edges_of t) h) g.pushed
 
 -- ---- the slots
 

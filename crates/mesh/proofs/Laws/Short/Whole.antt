@@ -1,7 +1,6 @@
 -- The short edges listed in one area: the pushed rows, sorted and each once, are the definition. Assumes nothing.
-use Rattle.std.proofs.Common.{◌≡◌, ℕ, ◌+◌, ◌-◌, ◌*◌, ◌<◌, ◌≤◌, true, false, leb, List, ◌++◌, map, length, take, drop, sym, refl, ap, ◌∙◌, ap₂, arith, le-leb, leb-true}
+use Rattle.std.proofs.Common.{◌≡◌, ℕ, ◌+◌, ◌-◌, ◌*◌, ◌<◌, ◌≤◌, true, false, leb, List, ◌++◌, map, length, take, drop, refl, ap, ◌∙◌, ap₂, arith, leb-true}
 use lib.Ieee.{Float}
-use borrow.Author.Tests.{lt-leb}
 use Rattle.geometry.specs.declared.point.Point.{Point}
 use Rattle.mesh.specs.Words.{zero_words, flat}
 use Rattle.mesh.specs.inside.Rows.{rows}
@@ -15,14 +14,6 @@ use Rattle.mesh.proofs.Laws.Short.Order.{set-rows}
 use Rattle.mesh.proofs.Laws.List.Push.{push_kept, push-rows}
 use Rattle.mesh.proofs.Laws.Short.Push.{shape-short}
 use Rattle.mesh.proofs.Laws.Short.Loops.{slots-few}
-
-pub fits-no : (n m : ℕ) → 65536 < n → false ≡ short_fits n m
-unfolding short_fits
-fits-no n m h = sym (rw (lt-leb n 65536 h) refl)
-
-pub fits-test : (n m : ℕ) → n ≤ 65536 → leb (52 * n) m ≡ short_fits n m
-unfolding short_fits
-fits-test n m h = sym (rw (le-leb n 65536 h) refl)
 
 pub fits-is : (n m : ℕ) → short_fits n m ≡ true → (n ≤ 65536) × (52 * n ≤ m)
 unfolding short_fits

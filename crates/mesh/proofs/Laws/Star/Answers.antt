@@ -1,9 +1,9 @@
 -- The answers in the area: what `star` and `neighbours` put there is their definition's, and what a caller reads there. Assumes nothing.
-use Rattle.std.proofs.Common.{◌≡◌, ℕ, ◌+◌, ◌-◌, ◌*◌, ◌<◌, ◌≤◌, Bool, true, false, List, ◌++◌, length, take, drop, replicate, sym, refl, ap, ◌∙◌, subst, ap₂, arith, length-append, take-take, take_at}
+use Rattle.std.proofs.Common.{◌≡◌, ℕ, ◌+◌, ◌-◌, ◌*◌, ◌<◌, ◌≤◌, true, false, List, ◌++◌, length, take, drop, replicate, sym, refl, ap, ◌∙◌, subst, ap₂, arith, length-append, take-take, take_at}
 use lib.ListN.{length-replicate}
 use Rattle.mesh.specs.declared.star.Index.{Index}
 use Rattle.mesh.specs.Words.{word_at}
-use Rattle.mesh.specs.inside.Star.{chain_length, Laid, Free, room_for, second, slots_met, slots_about, star_room, star_list, starred, others_met, neighbour_room, neighbour_list, neighboured, distinct, written, listed}
+use Rattle.mesh.specs.inside.Star.{chain_length, Laid, Free, second, slots_met, slots_about, star_room, star_list, starred, others_met, neighbour_room, neighbour_list, neighboured, distinct, written, listed}
 use Rattle.mesh.proofs.Laws.Star.Layout.{room-is}
 use Rattle.mesh.proofs.Laws.Star.Written.{length-written, written_below, written-part, written-more, written_over}
 use Rattle.mesh.proofs.Laws.Star.Chains.{length-kept}
@@ -67,23 +67,19 @@ about-short x s v w e =
     let r = (room-is x (length s) (chain_length x s v + chain_length x s (second x v w)) e).1 in
     omega (arith, slots-short x s v, slots-short x s (second x v w), length-append (slots_met x s v) (slots_met x s (second x v w)))
 
-module _ (x : Index) (s : List ℕ) (v w u n a b : ℕ) (eu : u ≡ second x v w) (ea : a ≡ chain_length x s v) (eb : b ≡ chain_length x s u) (en : n ≡ a + b) where
-  test : (t : Bool) → room_for x (length s) n ≡ t → star_room x s v w ≡ t
-  unfolding star_room
-  test t e =
-      let q : n ≡ chain_length x s v + chain_length x s (second x v w) = en ∙ ap₂ (λ (i j : ℕ). i + j) ea (eb ∙ ap (chain_length x s) eu) in
-      sym (ap (room_for x (length s)) q) ∙ e
-
-  pub star-none : room_for x (length s) n ≡ false → (0 ≡ length (star_list x s v w)) × (s ≡ starred x s v w)
+module _ (x : Index) (s : List ℕ) (v w : ℕ) where
+  pub star-none : star_room x s v w ≡ false → (0 ≡ length (star_list x s v w)) × (s ≡ starred x s v w)
   unfolding star_list starred
-  star-none e = (rw (test false e), rw (test false e))
+  star-none e = (rw e, rw e)
 
-  module _ (er : room_for x (length s) n ≡ true) where
+  module _ (er : star_room x s v w ≡ true) where
     l : Laid x (length s)
-    l = (room-is x (length s) n er).0
+    unfolding star_room
+    l = (room-is x (length s) _ er).0
 
-    room : x.area + (n + n) ≤ length s
-    room = (room-is x (length s) n er).1
+    room : x.area + (chain_length x s v + chain_length x s (second x v w) + (chain_length x s v + chain_length x s (second x v w))) ≤ length s
+    unfolding star_room
+    room = (room-is x (length s) _ er).1
 
     pub star-free : Free x s x.area (chain_length x s v)
     star-free = record { laid = l; behind = omega arith; fits = omega (arith, room) }
@@ -91,8 +87,8 @@ module _ (x : Index) (s : List ℕ) (v w u n a b : ℕ) (eu : u ≡ second x v w
     few-v : length (slots_met x s v) ≤ chain_length x s v
     few-v = slots-short x s v
 
-    few-u : length (slots_met x s u) ≤ chain_length x s u
-    few-u = slots-short x s u
+    few-u : length (slots_met x s (second x v w)) ≤ chain_length x s (second x v w)
+    few-u = slots-short x s (second x v w)
 
     module _ (i : ℕ) (s₁ : List ℕ) (ei : i ≡ length (slots_met x s v)) (e₁ : s₁ ≡ written s x.area (slots_met x s v)) where
       fits₁ : x.area + length (slots_met x s v) ≤ length s
@@ -104,71 +100,63 @@ module _ (x : Index) (s : List ℕ) (v w u n a b : ℕ) (eu : u ≡ second x v w
       read₁ : (j : ℕ) → j < x.area → word_at s₁ j ≡ word_at s j
       read₁ j h = ap (λ (y : List ℕ). word_at y j) e₁ ∙ written_below s x.area (slots_met x s v) fits₁ j h
 
-      pub star-few : i ≤ a
-      star-few = omega (arith, few-v)
+      pub star-few : x.area + i ≤ length s
+      star-few = omega (arith, room, few-v)
 
-      pub star-free-2 : Free x s₁ (x.area + i) (chain_length x s₁ u)
-      star-free-2 = record {
-        laid = subst (Laid x) (sym long₁) l;
-        behind = omega arith;
-        fits = omega (arith, room, few-v, long₁, length-kept x s s₁ l (λ j g h. read₁ j h) u);
-      }
+      module _ (u : ℕ) (eu : u ≡ second x v w) where
+        pub star-free-2 : Free x s₁ (x.area + i) (chain_length x s₁ u)
+        star-free-2 = record {
+          laid = subst (Laid x) (sym long₁) l;
+          behind = omega arith;
+          fits = omega (arith, room, few-v, long₁, length-kept x s s₁ l (λ j g h. read₁ j h) u, ap (chain_length x s) eu);
+        }
 
-      same₁ : slots_met x s₁ u ≡ slots_met x s u
-      same₁ = slots_same x s s₁ u (length s) l read₁
+        same₁ : slots_met x s₁ u ≡ slots_met x s (second x v w)
+        same₁ = slots_same x s s₁ u (length s) l read₁ ∙ ap (slots_met x s) eu
 
-      module _ (j : ℕ) (s₂ : List ℕ) (ej : j ≡ length (slots_met x s₁ u)) (e₂ : s₂ ≡ written s₁ (x.area + i) (slots_met x s₁ u)) where
-        all : s₂ ≡ written s x.area (slots_about x s v w)
-        unfolding slots_about
-        all =
-            e₂ ∙ ap₂ (λ (y z : List ℕ). written y (x.area + i) z) e₁ same₁
-            ∙ ap (λ (k : ℕ). written (written s x.area (slots_met x s v)) (x.area + k) (slots_met x s u)) ei
-            ∙ written-more s x.area (slots_met x s v) fits₁ (slots_met x s u)
-            ∙ ap (λ (y : ℕ). written s x.area (slots_met x s v ++ slots_met x s y)) eu
+        module _ (j : ℕ) (s₂ : List ℕ) (ej : j ≡ length (slots_met x s₁ u)) (e₂ : s₂ ≡ written s₁ (x.area + i) (slots_met x s₁ u)) where
+          all : s₂ ≡ written s x.area (slots_about x s v w)
+          unfolding slots_about
+          all =
+              e₂ ∙ ap₂ (λ (y z : List ℕ). written y (x.area + i) z) e₁ same₁
+              ∙ ap (λ (k : ℕ). written (written s x.area (slots_met x s v)) (x.area + k) (slots_met x s (second x v w))) ei
+              ∙ written-more s x.area (slots_met x s v) fits₁ (slots_met x s (second x v w))
 
-        sum : i + j ≡ length (slots_about x s v w)
-        unfolding slots_about
-        sum =
-            ap₂ (λ (y z : ℕ). y + z) ei (ej ∙ ap length same₁ ∙ ap (λ (y : ℕ). length (slots_met x s y)) eu)
-            ∙ sym (length-append (slots_met x s v) (slots_met x s (second x v w)))
+          sum : i + j ≡ length (slots_about x s v w)
+          unfolding slots_about
+          sum = ap₂ (λ (y z : ℕ). y + z) ei (ej ∙ ap length same₁) ∙ sym (length-append (slots_met x s v) (slots_met x s (second x v w)))
 
-        few : i + j ≤ n
-        few = omega (arith, few-v, few-u, ej, ap length same₁)
+          long₂ : length s₂ ≡ length s
+          long₂ = ap length all ∙ length-written s x.area (slots_about x s v w) (omega (arith, about-short x s v w er))
 
-        long₂ : length s₂ ≡ length s
-        long₂ = ap length all ∙ length-written s x.area (slots_about x s v w) (omega (arith, room, sum, few))
+          pub star-fits : x.area + (i + j + (i + j)) ≤ length s₂
+          star-fits = omega (arith, about-short x s v w er, sum, long₂)
 
-        pub star-sum : i + j ≤ n
-        star-sum = few
-
-        pub star-fits : x.area + (i + j + (i + j)) ≤ length s₂
-        star-fits = omega (arith, room, few, long₂)
-
-        pub star-is : (r : ℕ) (s₃ : List ℕ) → r ≡ length (distinct (take (i + j) (drop x.area s₂))) → s₃ ≡ listed s₂ x.area (take (i + j) (drop x.area s₂))
-            → (r ≡ length (star_list x s v w)) × (s₃ ≡ starred x s v w)
-        unfolding star_list starred
-        star-is r s₃ e₃ e₄ =
-            let o = ordered-is s x.area (slots_about x s v w) (omega (arith, room, sum, few)) s₂ s₃ (i + j) r all sum e₃ e₄ in
-            (rw (test true er) o.0, rw (test true er) o.1)
+          pub star-is : (r : ℕ) (s₃ : List ℕ) → r ≡ length (distinct (take (i + j) (drop x.area s₂))) → s₃ ≡ listed s₂ x.area (take (i + j) (drop x.area s₂))
+              → (r ≡ length (star_list x s v w)) × (s₃ ≡ starred x s v w)
+          unfolding star_list starred
+          star-is r s₃ e₃ e₄ =
+              let o = ordered-is s x.area (slots_about x s v w) (about-short x s v w er) s₂ s₃ (i + j) r all sum e₃ e₄ in
+              (rw er o.0, rw er o.1)
 
 -- ---- the neighbours
 
-module _ (x : Index) (s : List ℕ) (v n a : ℕ) (ea : a ≡ chain_length x s v) (en : n ≡ 4 * a) where
-  test-2 : (t : Bool) → room_for x (length s) n ≡ t → neighbour_room x s v ≡ t
-  unfolding neighbour_room
-  test-2 t e = let q : n ≡ 4 * chain_length x s v = en ∙ ap (λ (i : ℕ). 4 * i) ea in sym (ap (room_for x (length s)) q) ∙ e
-
-  pub neighbours-none : room_for x (length s) n ≡ false → (0 ≡ length (neighbour_list x s v)) × (s ≡ neighboured x s v)
+module _ (x : Index) (s : List ℕ) (v : ℕ) where
+  pub neighbours-none : neighbour_room x s v ≡ false → (0 ≡ length (neighbour_list x s v)) × (s ≡ neighboured x s v)
   unfolding neighbour_list neighboured
-  neighbours-none e = (rw (test-2 false e), rw (test-2 false e))
+  neighbours-none e = (rw e, rw e)
 
-  module _ (er : room_for x (length s) n ≡ true) where
+  module _ (er : neighbour_room x s v ≡ true) where
+    is : Laid x (length s) × (x.area + (4 * chain_length x s v + 4 * chain_length x s v) ≤ length s)
+    unfolding neighbour_room
+    is = room-is x (length s) (4 * chain_length x s v) er
+
     pub neighbours-free : Free x s x.area (4 * chain_length x s v)
-    neighbours-free = let h = room-is x (length s) n er in record { laid = h.0; behind = omega arith; fits = let g = h.1 in omega arith }
+    neighbours-free = record { laid = is.0; behind = omega arith; fits = omega (arith, is.1) }
 
     module _ (k : ℕ) (s₁ : List ℕ) (ek : k ≡ length (others_met x s v)) (e₁ : s₁ ≡ written s x.area (others_met x s v)) where
       tight : x.area + (length (others_met x s v) + length (others_met x s v)) ≤ length s
-      tight = let h = (room-is x (length s) n er).1 in omega (arith, all-others-short x s v)
+      tight = omega (arith, is.1, all-others-short x s v)
 
       pub neighbours-fits : x.area + (k + k) ≤ length s₁
       neighbours-fits = omega (arith, tight, ap length e₁ ∙ length-written s x.area (others_met x s v) (omega (arith, tight)))
@@ -178,4 +166,4 @@ module _ (x : Index) (s : List ℕ) (v n a : ℕ) (ea : a ≡ chain_length x s v
       unfolding neighbour_list neighboured
       neighbours-is r s₂ e₂ e₃ =
           let o = ordered-is s x.area (others_met x s v) tight s₁ s₂ k r e₁ ek e₂ e₃ in
-          (rw (test-2 true er) o.0, rw (test-2 true er) o.1)
+          (rw er o.0, rw er o.1)

@@ -1,10 +1,12 @@
 -- Gathering along a chain: each entry puts at most w words behind those there, and reads only words before the area. Assumes nothing.
-use Rattle.std.proofs.Common.{◌≡◌, ℕ, suc, ◌+◌, ◌-◌, ◌*◌, ◌/◌, ◌<◌, ◌≤◌, Bool, true, false, cond, not, eqb, List, [], ◌∷◌, ◌++◌, length, sym, refl, ap, ◌∙◌, subst, ap₂, append_assoc, append-nil, arith, length-append, eq-eqb, ne_eqb}
+use Rattle.std.proofs.Common.{◌≡◌, ℕ, suc, ◌+◌, ◌-◌, ◌*◌, ◌/◌, ◌<◌, ◌≤◌, Bool, true, false, cond, not, eqb, List, [], ◌∷◌, ◌++◌, length, get_or, take, sym, refl, ap, ◌∙◌, subst, ap₂, append_assoc, append-nil, arith, length-append, length-take-le, take_all, eq-eqb, ne_eqb}
+use Rattle.std.proofs.Math.Seq.{take-suc}
 use Rattle.mesh.specs.declared.star.Index.{Index}
 use Rattle.mesh.specs.Words.{word_at}
 use Rattle.mesh.specs.Complex.{mem}
 use Rattle.mesh.specs.inside.Star.{walk, gather, corner_at, corners_at, next_of, head_of, chain_length, chain_of, but_for, slot_if, others_if, slots_met, others_met, written, Laid, Free, Steady}
 use Rattle.mesh.proofs.Laws.Rows.{one-row}
+use Rattle.mesh.proofs.Laws.List.Push.{keep_append}
 use Rattle.mesh.proofs.Laws.Complex.Sets.{mem-here, mem-there}
 use Rattle.mesh.proofs.Laws.Star.Walks.{walk-yes, walk_no, walk_none, walk-short}
 use Rattle.mesh.proofs.Laws.Star.Written.{written_below, written-more, written_none}
@@ -26,6 +28,14 @@ module _ (x : Index) (s t : List ℕ) {m : ℕ} (l : Laid x m) (same : (j : ℕ)
       let d = corner-same (4 * e + 3) (omega arith) in
       ap₂ (λ (u : ℕ) (us : List ℕ). u ∷ us) a (ap₂ (λ (u : ℕ) (us : List ℕ). u ∷ us) b (ap₂ (λ (u w : ℕ). u ∷ w ∷ []) c d))
 
+but-short : (v : ℕ) (us : List ℕ) → length (but_for v us) ≤ length us
+but-short v [] = omega arith
+but-short v (u ∷ us) = go (not (eqb u v)) (but-short v us)
+  where
+    go : (b : Bool) → length (but_for v us) ≤ length us → length (cond b (u ∷ but_for v us) (but_for v us)) ≤ suc (length us)
+    go true h = omega arith
+    go false h = omega arith
+
 module _ (x : Index) (v : ℕ) where
   pub slot-short : (s : List ℕ) (p : ℕ) → length (slot_if x s v p) ≤ 1
   unfolding slot_if
@@ -35,20 +45,12 @@ module _ (x : Index) (v : ℕ) where
       go true = omega arith
       go false = omega arith
 
-  but-short : (us : List ℕ) → length (but_for v us) ≤ length us
-  but-short [] = omega arith
-  but-short (u ∷ us) = go (not (eqb u v)) (but-short us)
-    where
-      go : (b : Bool) → length (but_for v us) ≤ length us → length (cond b (u ∷ but_for v us) (but_for v us)) ≤ suc (length us)
-      go true h = omega arith
-      go false h = omega arith
-
   pub others-short : (s : List ℕ) (p : ℕ) → length (others_if x s v p) ≤ 4
   unfolding others_if
   others-short s p = go (eqb (corner_at x s p) v)
     where
       go : (b : Bool) → length (cond b (but_for v (corners_at x s (p / 4))) []) ≤ 4
-      go true = but-short (corners_at x s (p / 4))
+      go true = but-short v (corners_at x s (p / 4))
       go false = omega arith
 
   module _ (s t : List ℕ) {m : ℕ} (l : Laid x m) (same : (j : ℕ) → j < x.area → word_at t j ≡ word_at s j) where
@@ -103,13 +105,15 @@ slots_same x s t v m l same =
 
 -- the words got stand from k on, n of them, and with those that are left are all; each entry left has room for w more
 pub record Gathering (x : Index) (f : List ℕ → ℕ → List ℕ) (w k : ℕ) (all s₀ s : List ℕ) (p left n : ℕ) : Type 0 where
+  pub laid : Laid x (length s₀)
+  pub behind : x.area ≤ k
   pub got : List ℕ
   pub is : s ≡ written s₀ k got
   pub count : n ≡ length got
   pub rest : got ++ gather (f s₀) (walk x.room (next_of x s₀) left p) ≡ all
   pub fits : k + (n + left * w) ≤ length s₀
 
-module _ {x : Index} {f : List ℕ → ℕ → List ℕ} {w k : ℕ} {all s₀ s : List ℕ} {p left n : ℕ} (l : Laid x (length s₀)) (b : x.area ≤ k) (g : Gathering x f w k all s₀ s p left n) where
+module _ {x : Index} {f : List ℕ → ℕ → List ℕ} {w k : ℕ} {all s₀ s : List ℕ} {p left n : ℕ} (g : Gathering x f w k all s₀ s p left n) where
   room-got : k + length g.got ≤ length s₀
   room-got = let h = g.fits in let c = g.count in omega arith
 
@@ -118,19 +122,17 @@ module _ {x : Index} {f : List ℕ → ℕ → List ℕ} {w k : ℕ} {all s₀ s
   gather-room h = let a = g.fits in omega (arith, one-row left w h)
 
   pub gather-read : (j : ℕ) → j < x.area → word_at s j ≡ word_at s₀ j
-  gather-read j h = ap (λ (u : List ℕ). word_at u j) g.is ∙ written_below s₀ k g.got room-got j (omega arith)
+  gather-read j h = ap (λ (u : List ℕ). word_at u j) g.is ∙ written_below s₀ k g.got room-got j (omega (arith, g.behind))
 
-  module _ (short : (q : ℕ) → length (f s₀ q) ≤ w)
-      (same : ((j : ℕ) → j < x.area → word_at s j ≡ word_at s₀ j) → p / 4 < x.room → f s p ≡ f s₀ p)
-      (some : 0 < left) (hp : p / 4 < x.room) (t : List ℕ) (r : ℕ) (er : r ≡ length (f s p)) (et : t ≡ written s (k + n) (f s p)) where
+  module _ (steady : Steady x s₀ w f) (some : 0 < left) (hp : p / 4 < x.room) (t : List ℕ) (r : ℕ) (er : r ≡ length (f s p)) (et : t ≡ written s (k + n) (f s p)) where
     gives : f s p ≡ f s₀ p
-    gives = same gather-read hp
+    gives = steady.same s gather-read p hp
 
     count-more : r ≡ length (f s₀ p)
     count-more = er ∙ ap length gives
 
     room-more : k + length (g.got ++ f s₀ p) ≤ length s₀
-    room-more = omega (arith, gather-room some, length-append g.got (f s₀ p), short p, g.count)
+    room-more = omega (arith, gather-room some, length-append g.got (f s₀ p), steady.few p, g.count)
 
     is-more : t ≡ written s₀ k (g.got ++ f s₀ p)
     is-more =
@@ -144,15 +146,17 @@ module _ {x : Index} {f : List ℕ → ℕ → List ℕ} {w k : ℕ} {all s₀ s
     -- a turn
     pub gather-turn : (q : ℕ) → q ≡ next_of x t p → Gathering x f w k all s₀ t q (left - 1) (n + r)
     gather-turn q eq = record {
+      laid = g.laid;
+      behind = g.behind;
       got = g.got ++ f s₀ p;
       is = is-more;
       count = omega (arith, g.count, count-more, length-append g.got (f s₀ p));
       rest = rest;
-      fits = omega (arith, g.fits, one-row left w some, count-more, short p);
+      fits = omega (arith, g.fits, one-row left w some, count-more, steady.few p);
     }
       where
         next : q ≡ next_of x s₀ p
-        next = eq ∙ ap (λ (u : List ℕ). word_at u (x.nexts + p)) is-more ∙ written_below s₀ k (g.got ++ f s₀ p) room-more (x.nexts + p) (omega arith)
+        next = eq ∙ ap (λ (u : List ℕ). word_at u (x.nexts + p)) is-more ∙ written_below s₀ k (g.got ++ f s₀ p) room-more (x.nexts + p) (omega (arith, g.laid.heads, g.laid.lengths, g.laid.area, g.behind))
 
         one : left ≡ suc (left - 1)
         one = omega arith
@@ -182,14 +186,16 @@ module _ {x : Index} {f : List ℕ → ℕ → List ℕ} {w k : ℕ} {all s₀ s
   pub gather-stop : x.room ≤ p / 4 → (n ≡ length all) × (s ≡ written s₀ k all)
   gather-stop h = ended (walk_no x.room (next_of x s₀) left p h)
 
-pub gather-start : (x : Index) (f : List ℕ → ℕ → List ℕ) (w k : ℕ) (s : List ℕ) (p left : ℕ) → k + left * w ≤ length s
+pub gather-start : (x : Index) (f : List ℕ → ℕ → List ℕ) (w k : ℕ) (s : List ℕ) (p left : ℕ) → Free x s k (left * w)
     → Gathering x f w k (gather (f s) (walk x.room (next_of x s) left p)) s s p left 0
-gather-start x f w k s p left h = record {
+gather-start x f w k s p left fr = record {
+  laid = fr.laid;
+  behind = fr.behind;
   got = [];
   is = sym (written_none s k);
   count = refl;
   rest = refl;
-  fits = omega arith;
+  fits = omega (arith, fr.fits);
 }
 
 -- ---- an entry's words put
@@ -201,52 +207,53 @@ pub others-none : (x : Index) (s : List ℕ) (v p u : ℕ) → u ≡ corner_at x
 unfolding others_if
 others-none x s v p u e n = rw (← e, ne_eqb u v n)
 
-but-cons : (v u : ℕ) (us : List ℕ) → but_for v (u ∷ us) ≡ but_for v (u ∷ []) ++ but_for v us
-but-cons v u us = go (not (eqb u v))
-  where
-    go : (b : Bool) → cond b (u ∷ but_for v us) (but_for v us) ≡ cond b (u ∷ []) [] ++ but_for v us
-    go true = refl
-    go false = refl
+-- the first i of four words us but v stand from k on, n of them
+pub record PutBut (s₀ : List ℕ) (k v : ℕ) (us s : List ℕ) (i n : ℕ) : Type 0 where
+  pub four : length us ≡ 4
+  pub many : n ≡ length (but_for v (take i us))
+  pub words : s ≡ written s₀ k (but_for v (take i us))
 
--- words behind words
-put-more : (s t u : List ℕ) (k n : ℕ) (l m : List ℕ) → k + length l ≤ length s → t ≡ written s k l → n ≡ k + length l → u ≡ written t n m → u ≡ written s k (l ++ m)
-put-more s t u k n l m h et en eu = eu ∙ ap₂ (λ (a : List ℕ) (i : ℕ). written a i m) et en ∙ written-more s k l h m
+pub but-start : (s : List ℕ) (k v : ℕ) (us : List ℕ) → length us ≡ 4 → PutBut s k v us s 0 0
+but-start s k v us h = record { four = h; many = refl; words = sym (written_none s k) }
 
--- the four corners of a slot but v
-pub others_put : (x : Index) (s : List ℕ) (v p k u : ℕ) → k + 4 ≤ length s → u ≡ corner_at x s p → u ≡ v
-    → (a b c d k₁ k₂ k₃ k₄ : ℕ) (s₁ s₂ s₃ s₄ : List ℕ)
-    → a ≡ corner_at x s (4 * (p / 4)) → b ≡ corner_at x s (4 * (p / 4) + 1) → c ≡ corner_at x s (4 * (p / 4) + 2) → d ≡ corner_at x s (4 * (p / 4) + 3)
-    → k₁ ≡ k + length (but_for v (a ∷ [])) → s₁ ≡ written s k (but_for v (a ∷ []))
-    → k₂ ≡ k₁ + length (but_for v (b ∷ [])) → s₂ ≡ written s₁ k₁ (but_for v (b ∷ []))
-    → k₃ ≡ k₂ + length (but_for v (c ∷ [])) → s₃ ≡ written s₂ k₂ (but_for v (c ∷ []))
-    → k₄ ≡ k₃ + length (but_for v (d ∷ [])) → s₄ ≡ written s₃ k₃ (but_for v (d ∷ []))
-    → (k₄ - k ≡ length (others_if x s v p)) × (s₄ ≡ written s k (others_if x s v p))
+module _ {s₀ : List ℕ} {k v : ℕ} {us s : List ℕ} {i n : ℕ} (h : k + 4 ≤ length s₀) (g : PutBut s₀ k v us s i n) where
+  pub but-few : i ≤ 4 → n ≤ i
+  but-few j = omega (arith, g.many, g.four, but-short v (take i us), length-take-le i us (omega (arith, g.four)))
+
+  module _ (j : i < 4) (u m : ℕ) (t : List ℕ) (eu : u ≡ get_or us i 0) (em : m ≡ length (but_for v (u ∷ []))) (et : t ≡ written s (k + n) (but_for v (u ∷ []))) where
+    pub but-one : m ≤ 1
+    but-one = omega (arith, em, but-short v (u ∷ []))
+
+    pub but-turn : PutBut s₀ k v us t (i + 1) (n + m)
+    but-turn =
+        let few = but-few (omega arith) in
+        let one : i + 1 ≡ suc i = omega arith in
+        let l = but_for v (take i us) in
+        let all : l ++ but_for v (u ∷ []) ≡ but_for v (take (i + 1) us) =
+        sym (keep_append (λ (w : ℕ). not (eqb w v)) (take i us) (u ∷ []))
+        ∙ ap (λ (w : ℕ). but_for v (take i us ++ (w ∷ []))) eu
+        ∙ ap (but_for v) (sym (ap (λ (a : ℕ). take a us) one ∙ take-suc us i 0 (omega (arith, g.four)))) in
+        record {
+          four = g.four;
+          many = omega (arith, g.many, em, length-append l (but_for v (u ∷ []))) ∙ ap length all;
+          words =
+              et
+              ∙ ap₂ (λ (r : List ℕ) (a : ℕ). written r (k + a) (but_for v (u ∷ []))) g.words g.many
+              ∙ written-more s₀ k l (omega (arith, g.many)) (but_for v (u ∷ []))
+              ∙ ap (written s₀ k) all;
+        }
+
+  pub but-end : 4 ≤ i → (l : List ℕ) → l ≡ but_for v us → (n ≡ length l) × (s ≡ written s₀ k l)
+  but-end j l el =
+      let e = take_all i us (omega (arith, g.four)) in
+      let f : but_for v (take i us) ≡ l = ap (but_for v) e ∙ sym el in
+      (g.many ∙ ap length f, g.words ∙ ap (written s₀ k) f)
+
+-- the corners of a slot but v
+pub others-yes : (x : Index) (s : List ℕ) (v p u : ℕ) (us : List ℕ) → u ≡ corner_at x s p → u ≡ v → us ≡ corners_at x s (p / 4) → others_if x s v p ≡ but_for v us
 unfolding others_if
-others_put x s v p k u h eu e a b c d k₁ k₂ k₃ k₄ s₁ s₂ s₃ s₄ ea eb ec ed f₁ g₁ f₂ g₂ f₃ g₃ f₄ g₄ =
-    let la = but_for v (a ∷ []) in
-    let lb = but_for v (b ∷ []) in
-    let lc = but_for v (c ∷ []) in
-    let ld = but_for v (d ∷ []) in
-    let na = but-short x v (a ∷ []) in
-    let nb = but-short x v (b ∷ []) in
-    let nc = but-short x v (c ∷ []) in
-    let nd = but-short x v (d ∷ []) in
-    let n₂ = length-append la lb in
-    let n₃ = length-append (la ++ lb) lc in
-    let n₄ = length-append ((la ++ lb) ++ lc) ld in
-    let w₂ : s₂ ≡ written s k (la ++ lb) = put-more s s₁ s₂ k k₁ la lb (omega arith) g₁ f₁ g₂ in
-    let w₃ : s₃ ≡ written s k ((la ++ lb) ++ lc) = put-more s s₂ s₃ k k₂ (la ++ lb) lc (omega arith) w₂ (omega arith) g₃ in
-    let w₄ : s₄ ≡ written s k (((la ++ lb) ++ lc) ++ ld) = put-more s s₃ s₄ k k₃ ((la ++ lb) ++ lc) ld (omega arith) w₃ (omega arith) g₄ in
-    let all : ((la ++ lb) ++ lc) ++ ld ≡ but_for v (a ∷ b ∷ c ∷ d ∷ []) =
-    append_assoc (la ++ lb) lc ld
-    ∙ append_assoc la lb (lc ++ ld)
-    ∙ sym (but-cons v a (b ∷ c ∷ d ∷ []) ∙ ap (λ (z : List ℕ). la ++ z) (but-cons v b (c ∷ d ∷ []) ∙ ap (λ (z : List ℕ). lb ++ z) (but-cons v c (d ∷ [])))) in
-    let corners : a ∷ b ∷ c ∷ d ∷ [] ≡ corners_at x s (p / 4) =
-    ap₂ (λ (y : ℕ) (z : List ℕ). y ∷ z) ea (ap₂ (λ (y : ℕ) (z : List ℕ). y ∷ z) eb (ap₂ (λ (y z : ℕ). y ∷ z ∷ []) ec ed)) in
-    let is : ((la ++ lb) ++ lc) ++ ld ≡ cond (eqb (corner_at x s p) v) (but_for v (corners_at x s (p / 4))) [] =
-    all ∙ ap (but_for v) corners ∙ ap (λ (t : Bool). cond t (but_for v (corners_at x s (p / 4))) []) (sym (eq-eqb (corner_at x s p) v (sym eu ∙ e))) in
-    let long : k₄ - k ≡ length (((la ++ lb) ++ lc) ++ ld) = omega arith in
-    (long ∙ ap length is, w₄ ∙ ap (written s k) is)
+others-yes x s v p u us eu e es =
+    ap (λ (t : Bool). cond t (but_for v (corners_at x s (p / 4))) []) (eq-eqb (corner_at x s p) v (sym eu ∙ e)) ∙ ap (but_for v) (sym es)
 
 -- ---- the loop begins
 
@@ -256,23 +263,17 @@ unfolding chain_of
 each-start x f w s v k left p fr el ep =
     subst (λ (all : List ℕ). Gathering x f w k all s s p left 0)
     (ap₂ (λ (i j : ℕ). gather (f s) (walk x.room (next_of x s) i j)) el ep)
-    (gather-start x f w k s p left (rw el fr.fits))
+    (gather-start x f w k s p left (rw el fr))
 
 -- ---- what the walks gather
 
 module _ (x : Index) (s : List ℕ) (v k : ℕ) where
   -- the slots where v stands
   module _ (fr : Free x s k (chain_length x s v)) where
-    pub slots-free : Free x s k (chain_length x s v * 1)
-    slots-free = record { laid = fr.laid; behind = fr.behind; fits = let h = fr.fits in omega arith }
-
     pub slots-steady : Steady x s 1 (λ t p. slot_if x t v p)
     slots-steady = record { few = slot-short x v s; same = λ t same. slot_same x v s t fr.laid same }
 
   -- their other vertices
   module _ (fr : Free x s k (4 * chain_length x s v)) where
-    pub others-free : Free x s k (chain_length x s v * 4)
-    others-free = record { laid = fr.laid; behind = fr.behind; fits = let h = fr.fits in omega arith }
-
     pub others-steady : Steady x s 4 (λ t p. others_if x t v p)
     others-steady = record { few = others-short x v s; same = λ t same. others_same x v s t fr.laid same }

@@ -4,7 +4,7 @@ use Rattle.std.proofs.lemmas.Iterator.{YieldsList-from_slice}
 use Rattle.std.proofs.lemmas.Iterator.Search.{all_from_yields_List}
 use Rattle.mesh.specs.Intake.{sized_field}
 use Rattle.mesh.proofs.Laws.Intake.Chains.{and-on}
-use Rattle.mesh.proofs.Laws.Intake.Every.{list_all-every}
+use Rattle.mesh.proofs.Laws.Every.{every_is}
 use Rattle.mesh.proofs.intake.fields_in.Goals as goal
 
 pub returns-then-count-le8 : goal.returns-then-count-le8
@@ -12,4 +12,4 @@ returns-then-count-le8 c =
     let a = c.args in
     and-on (le-leb a.count 8 c.if-count-le8.true)
     (all_from_yields_List sized_field _ _ _ c.all.ensures.ran (YieldsList-from_slice (take a.count a.fields) c.iter.ensures.rest) (λ x b q k. search (rules, tests))
-    ∙ list_all-every sized_field (take a.count a.fields))
+    ∙ every_is sized_field (take a.count a.fields))

@@ -1,7 +1,6 @@
 -- `mesh::intake::intake` meets its contract: the numbers 10 to 15, then the boundary's; the floats are cleared between. Assumes nothing.
-use Rattle.std.proofs.Common.{ap, ◌∙◌, arith}
+use Rattle.std.proofs.Common.{ap, arith}
 use Rattle.std.proofs.lemmas.Result.{err_from_is_err_and}
-use Rattle.mesh.specs.Words.{zero_words}
 use Rattle.mesh.specs.Refusal.{number_in}
 use Rattle.mesh.proofs.Laws.Refusal.{number_above}
 use Rattle.mesh.proofs.Laws.Intake.Table.{intake-stop, intake-go, boundary-room}
@@ -22,9 +21,9 @@ check_boundary-requires-clause-n_bound c =
     let r = boundary-room a.s a.fields a.parameters.now a.points.now a.masks a.elements.now a.surface a.work.now a.floats.now (number_in n.result) n.ensures.value (ap number_in c.in_ok-numbers.was) in
     (r.0, r.1, omega (arith, r.2, l))
 
-pub returns : goal.returns
-returns c =
+pub returns-clause-value : goal.returns-clause-value
+returns-clause-value c =
     let a = c.args in
     let n = c.check_numbers-numbers in
     let b = c.check_boundary in
-    record { value = intake-go a.s a.fields a.parameters.now a.points.now a.masks a.elements.now a.surface a.work.now a.floats.now (number_in n.result) n.ensures.value (ap number_in c.in_ok-numbers.was) (number_in b.result) b.ensures.value; work_after = b.ensures.work_after ∙ ap zero_words n.auto.work; floats_after = c.clear_floats.ensures }
+    intake-go a.s a.fields a.parameters.now a.points.now a.masks a.elements.now a.surface a.work.now a.floats.now (number_in n.result) n.ensures.value (ap number_in c.in_ok-numbers.was) (number_in b.result) b.ensures.value

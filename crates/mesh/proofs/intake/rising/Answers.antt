@@ -1,11 +1,11 @@
--- `mesh::intake::rising` meets its contract: the four are inserted one by one, as the sort inserts them. Assumes nothing.
-use Rattle.std.proofs.Common.{leb, [], ◌∷◌, ap, ◌∙◌}
-use Rattle.mesh.specs.Sort.{insert, sort}
-use Rattle.mesh.specs.declared.element.Pair.{Pair}
+-- `mesh::intake::rising` meets its contract: the library's sort is the one of specs/Sort. Assumes nothing.
+use Rattle.std.proofs.Common.{ap, ◌∙◌}
+use Rattle.std.specs.Prelude.{nat_le}
+use Rattle.mesh.specs.Sort.{sort}
 use Rattle.mesh.specs.inside.Intake.{vertex_row}
-use Rattle.mesh.proofs.Laws.Edge.{edge-sorted}
+use Rattle.mesh.proofs.Laws.SortedNumbers.{library-sort}
 use Rattle.mesh.proofs.intake.rising.Goals as goal
 
 pub returns : goal.returns
-unfolding vertex_row sort insert
-returns c = c.rising_four.ensures ∙ ap (insert leb c.args.t.a) (c.rising_three.ensures ∙ ap (insert leb c.args.t.b) (ap (λ (e : Pair). e.a ∷ e.b ∷ []) c.edge.ensures ∙ edge-sorted c.args.t.c c.args.t.d))
+unfolding vertex_row
+returns c = library-sort _ _ c.sort_unstable.ensures.permutation c.sort_unstable.ensures.sorted ∙ ap (sort nat_le) c.vertices-row.ensures

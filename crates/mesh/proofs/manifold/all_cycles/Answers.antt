@@ -1,47 +1,31 @@
--- `mesh::manifold::all_cycles` meets its contract. The invariant: the runs from `first` on decide, and no mark is above the last. Assumes nothing.
-use Rattle.std.proofs.Common.{◌*◌, arith}
-use Rattle.mesh.proofs.Laws.Manifold.Growth.{kept-both}
-use Rattle.mesh.proofs.Laws.Manifold.Cycles.{cycling-start, run-bounds, run-ready, cycling-turn, cycling-fail, cycling-end}
+-- `mesh::manifold::all_cycles` meets its contract. The invariant: the runs left decide, and no mark is above the last. Assumes nothing.
+use Rattle.std.proofs.Common.{refl, arith}
+use Rattle.mesh.proofs.Laws.Manifold.Cycles.{cycling-start, cycling-few, cycling-kept, run-ready, cycling-turn, cycling-fail, cycling-end}
 use Rattle.mesh.proofs.manifold.all_cycles.Goals as goal
 
-pub loop-first-init : goal.loop-first-init
-loop-first-init c = cycling-start (c.requires)
-
-pub run_from-k-requires : goal.run_from-k-requires
-run_from-k-requires c = omega (arith, c.requires.room, c.loop-first.invariant.kept.long)
+pub loop-run-init : goal.loop-run-init
+loop-run-init c =
+    let e = c.split_at_mut-links.ensures in
+    cycling-start c.args.m c.args.area.now c.requires e.front e.back (rw c.into_iter-run-iterator.ensures.into_iter_gives c.new-run-items.ensures)
 
 pub overflow_add-mark : goal.overflow_add-mark
-overflow_add-mark c = omega (arith, c.requires.few, c.loop-first.invariant.few)
-
-pub overflow_mul-first : goal.overflow_mul-first
-overflow_mul-first c = omega (arith, c.requires.few, c.loop-first.invariant.bound)
-
-pub overflow_add-m : goal.overflow_add-m
-overflow_add-m c = omega (arith, c.requires.few, c.loop-first.invariant.bound)
-
-pub overflow_mul-m : goal.overflow_mul-m
-overflow_mul-m c = omega (arith, c.requires.few)
+overflow_add-mark c = omega (arith, c.requires.few, cycling-few c.args.m c.args.area.now c.requires c.loop-run.invariant c.in-Some.run' c.next.new.self c.in-Some.ensures.steps)
 
 pub one_cycle-requires : goal.one_cycle-requires
-one_cycle-requires c = run-ready (c.requires) c.loop-first.invariant c.loop-first-test.true c.run_from-k.ensures
-
-pub shape_of-area-then-not-one_cycle : goal.shape_of-area-then-not-one_cycle
-shape_of-area-then-not-one_cycle c = (kept-both (5 * c.args.m) c.args.area.now c.loop-first.area c.one_cycle.new.area c.loop-first.invariant.kept c.one_cycle.ensures.1).long
+one_cycle-requires c = rw c.split_at_mut-links.ensures.front (run-ready c.args.m c.args.area.now c.requires c.loop-run.invariant c.in-Some.run' c.next.new.self c.in-Some.ensures.steps)
 
 pub returns-then-not-one_cycle : goal.returns-then-not-one_cycle
-returns-then-not-one_cycle c = (cycling-fail (c.requires) c.loop-first.invariant c.loop-first-test.true c.run_from-k.ensures c.one_cycle.ensures.0 c.if-not-one_cycle.true, kept-both (5 * c.args.m) c.args.area.now c.loop-first.area c.one_cycle.new.area c.loop-first.invariant.kept c.one_cycle.ensures.1)
+returns-then-not-one_cycle c =
+    let e = c.split_at_mut-links.ensures.front in
+    let a = c.args in
+    (cycling-fail a.m a.area.now c.requires c.loop-run.invariant c.in-Some.run' c.next.new.self c.in-Some.ensures.steps (rw e at c.one_cycle.ensures.0) c.if-not-one_cycle.true, rw e (cycling-kept a.m a.area.now c.requires c.loop-run.invariant _ c.one_cycle.ensures.1))
 
-pub overflow_add-first : goal.overflow_add-first
-overflow_add-first c = omega (arith, c.requires.few, (run-bounds (c.requires) c.loop-first.invariant c.loop-first-test.true c.run_from-k.ensures).1)
-
-pub loop-first-smaller : goal.loop-first-smaller
-loop-first-smaller c = omega (arith, (run-bounds (c.requires) c.loop-first.invariant c.loop-first-test.true c.run_from-k.ensures).0)
-
-pub loop-first-preserved : goal.loop-first-preserved
-loop-first-preserved c = cycling-turn (c.requires) c.loop-first.invariant c.loop-first-test.true c.run_from-k.ensures c.one_cycle.ensures.0 c.if-not-one_cycle.false c.one_cycle.ensures.1 c.one_cycle.ensures.2
-
-pub shape_of-area : goal.shape_of-area
-shape_of-area c = c.loop-first.invariant.kept.long
+pub loop-run-preserved : goal.loop-run-preserved
+loop-run-preserved c =
+    let a = c.args in
+    cycling-turn a.m a.area.now c.requires c.loop-run.invariant c.in-Some.run' c.next.new.self c.in-Some.ensures.steps (rw c.split_at_mut-links.ensures.front at c.one_cycle.ensures.0) c.if-not-one_cycle.false c.one_cycle.ensures.1 c.one_cycle.ensures.2
 
 pub returns : goal.returns
-returns c = (cycling-end c.loop-first.invariant c.loop-first-test.false, c.loop-first.invariant.kept)
+returns c =
+    let a = c.args in
+    (cycling-end a.m a.area.now c.requires c.loop-run.invariant c.next.new.self c.in-None.ensures.steps, rw c.split_at_mut-links.ensures.front (cycling-kept a.m a.area.now c.requires c.loop-run.invariant _ refl))

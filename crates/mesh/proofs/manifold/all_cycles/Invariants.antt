@@ -1,10 +1,6 @@
--- `mesh::manifold::all_cycles` meets its contract. The invariant: the runs from `first` on decide, and no mark is above the last. Assumes nothing.
-use Rattle.std.proofs.Common.{◌-◌}
+-- `mesh::manifold::all_cycles` meets its contract. The invariant: the runs left decide, and no mark is above the last. Assumes nothing.
 use Rattle.mesh.proofs.Laws.Manifold.Cycles.{Cycling}
 use Rattle.mesh.proofs.manifold.all_cycles.Given as goal
 
-abbrev pub invariant-loop-first : goal.invariant-loop-first
-invariant-loop-first l = Cycling l.m l.initial.area l.area l.first l.mark
-
-abbrev pub decreases-loop-first : goal.decreases-loop-first
-decreases-loop-first l = l.m - l.first
+abbrev pub invariant-loop-run : goal.invariant-loop-run
+invariant-loop-run l = Cycling l.m l.fn.area l.marks l.mark l.run-iterator

@@ -5,4 +5,4 @@ use Rattle.mesh.proofs.Laws.Manifold.Cycles.{pairs_at}
 use Rattle.mesh.proofs.manifold.grow.Given as goal
 
 abbrev pub invariant-loop-i : goal.invariant-loop-i
-invariant-loop-i l = (l.i ≤ l.k) × (l.added ≤ l.i) × Grown l.base l.mark (take l.i (pairs_at l.p l.k l.initial.area)) l.initial.area l.area l.added
+invariant-loop-i l = (l.i ≤ l.k) × (l.added ≤ l.i) × Grown l.mark (take l.i (pairs_at l.p l.k l.links)) l.initial.marks l.marks l.added

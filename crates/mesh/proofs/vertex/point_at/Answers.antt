@@ -9,4 +9,4 @@ returns-then-points-v c = point-past c.args.points.now c.args.v c.if-points-v.tr
 
 pub returns : goal.returns
 unfolding point_in
-returns c = λ i. record { x = c.float.ensures i; y = c.float-2.ensures i; z = c.float-3.ensures i }
+returns c = λ i. record { x = c.at.ensures i; y = c.at-2.ensures i; z = c.at-3.ensures i }

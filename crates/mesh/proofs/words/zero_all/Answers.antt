@@ -2,8 +2,5 @@
 use Rattle.std.proofs.Common.{length, replicate, ap, ◌∙◌}
 use Rattle.mesh.proofs.words.zero_all.Goals as goal
 
-pub fill-requires : goal.fill-requires
-fill-requires g c = (g.met.T.Zero.copies c.zero.result).0
-
 pub returns : goal.returns
 returns g c = c.fill.ensures.after (g.met.T.Zero.copies c.zero.result).1 ∙ ap (replicate (length c.args.s.now)) c.zero.ensures

@@ -2,18 +2,14 @@
 use mathlib.Core.Path.{◌≡◌, sym, ap, ap₂, ◌∙◌}
 use mathlib.Core.Bool.{true}
 use mathlib.Core.List.{List, map}
-use Prim.Native.Nat.{ℕ, ◌+◌, ◌^◌, ◌≤◌, ◌<◌, min}
-use mathlib.Core.Logic.{inl, inr}
-use borrow.Author.Tests.{leb-true, leb-false}
-use Rattle.mesh.proofs.Laws.Bools.{split}
+use Prim.Native.Nat.{ℕ, ◌+◌, ◌^◌, ◌≤◌, ◌<◌}
 use native.Mathlib.Nat.{lt_of_le_of_lt}
 use native.Mathlib.Numerals.{add-one}
-use native.Mathlib.Omega.{arith}
-use lib.Dec.{T, leb, lit<}
+use lib.Dec.{T, lit<}
 use lib.IntN.{pos}
 use lib.Ieee.{fin, binary64, in_float}
-use lib.ListN.{length, take, drop, get_or, drop_of_length-le, length-map}
-use lib.Seq.{drop-cons, take_all}
+use lib.ListN.{length, drop, get_or, drop_of_length-le, length-map}
+use lib.Seq.{drop-cons}
 use Rattle.geometry.specs.declared.point.Point.{Point}
 use Rattle.geometry.specs.Float.{total_from, total}
 use Rattle.geometry.proofs.Laws.Rank.Away.{in-float}
@@ -49,10 +45,3 @@ module _ (f : ℕ → Point) (l : List ℕ) where
   sum-end i s r h e inv =
       e ∙ ap (λ (u : Point). divided u (length l)) (sym (ap (λ (u : List ℕ). sum_from s (map f u)) (drop_of_length-le l {i = i} h)) ∙ inv)
       ∙ ap (divided (sum_from minus_zero (map f l))) (sym (length-map l f))
-
--- as many of a list as there are
-pub take_min : (n : ℕ) (l : List ℕ) → take (min n (length l)) l ≡ take n l
-take_min n l = elim (split (leb n (length l))) [
-  | inl h ↦ let k : min n (length l) ≡ n = omega (arith, leb-true n (length l) h) in ap (λ (t : ℕ). take t l) k
-  | inr h ↦ take_all (min n (length l)) l (omega (arith, leb-false n (length l) h)) ∙ sym (take_all n l (omega (arith, leb-false n (length l) h)))
-]

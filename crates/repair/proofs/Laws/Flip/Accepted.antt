@@ -1,7 +1,7 @@
 -- The elements of a flip oriented, measured and compared. Assumes nothing.
 use mathlib.Core.Path.{◌≡◌, refl, sym, ap, ap₂, ◌∙◌}
 use mathlib.Core.Logic.{◌⊎◌, ⊎_elim}
-use mathlib.Core.Bool.{Bool, true, false, ◌&&◌}
+use mathlib.Core.Bool.{Bool, true, false}
 use mathlib.Core.List.{List, [], ◌∷◌, map}
 use Prim.Native.Nat.{ℕ, suc, ◌+◌, ◌≤◌, ◌<◌}
 use native.Mathlib.Omega.{arith}
@@ -10,7 +10,7 @@ use lib.Dec.{leb}
 use lib.ListN.{length, get_or, drop, drop_of_length-le}
 use lib.Seq.{drop-cons}
 use lib.Ieee.{Float, lt}
-use Rattle.std.specs.List.{list_all, fold}
+use Rattle.std.specs.List.{fold}
 use Rattle.geometry.specs.Float.{◌+₆₄◌, total_from}
 use Rattle.geometry.specs.Literals.{e_10}
 use Rattle.mesh.specs.declared.element.Tet.{Tet}
@@ -22,13 +22,6 @@ use Rattle.repair.specs.Flip.{accepted}
 use Rattle.repair.specs.inside.Quality.{started, counted, tallied}
 use Rattle.repair.proofs.Laws.Gain.Tallies.{counted-few, tallied-lowest, tallied-bad}
 
--- ---- determinants above 0
-
--- the library's test of a whole list is that of specs/Tests
-pub every-all : {A : Type 0} (p : A → Bool) (ts : List A) → list_all p ts ≡ every p ts
-every-all p [] = refl
-every-all p (t ∷ ts) = ap (λ (q : Bool). p t && q) (every-all p ts)
-
 -- ---- the tally
 
 -- once i elements of ts are counted, r and those that are left make the tally of all
@@ -37,9 +30,6 @@ pub record Counting (μ : Measure) (ts : List Tet) (r : Tally) (i : ℕ) : Type 
   pub is : tallied μ r (drop i ts) ≡ tallied μ started ts
 
 module _ (μ : Measure) (ts : List Tet) where
-  pub counting-start : (r : Tally) → r ≡ started → Counting μ ts r 0
-  counting-start r e = record { few = omega (arith, ap (λ (u : Tally). u.bad) e); is = ap (λ (u : Tally). tallied μ u ts) e }
-
   module _ {r : Tally} {i : ℕ} (k : Counting μ ts r i) where
     pub counting-turn : (d : Tet) → i < length ts → (s : Float) → s ≡ μ.score (get_or ts i d) → (q : Tally) → q ≡ counted r s → Counting μ ts q (i + 1)
     unfolding tallied

@@ -162,12 +162,5 @@ module _ (k g : ℕ) (s₀ f : List ℕ) (fit : area_fits k (36 * k) ≡ true) (
 
 -- ---- `test_keys`
 
-module _ (k g : ℕ) (s f : List ℕ) {o : Outcome} {c : ℕ} (ho : o ≡ Surface c) (b : Bool) (h : b ≡ same_triples (sorted_keys (triples c (drop (4 * k) s))) (sorted_keys (triples g f))) where
-  pub keyed-taken : b ≡ true → Surface c ≡ keyed_outcome k g o s f
-  keyed-taken q = rw ho (sym (rw (sym h ∙ q) refl))
-
-  pub keyed-refused : b ≡ false → Refused 23 ≡ keyed_outcome k g o s f
-  keyed-refused q = rw ho (sym (rw (sym h ∙ q) refl))
-
 pub keyed-none : (k g : ℕ) (s f : List ℕ) {o : Outcome} {n : ℕ} → o ≡ Refused n → Refused n ≡ keyed_outcome k g o s f
 keyed-none k g s f ho = rw ho refl

@@ -6,7 +6,6 @@ use mathlib.Core.List.{List, [], ◌∷◌, ◌++◌, map}
 use mathlib.Core.Option.{Option, none, some}
 use Prim.Native.Nat.{ℕ, zero, suc, ◌+◌, ◌≤◌, ◌<◌}
 use native.Mathlib.Omega.{arith}
-use borrow.Author.Tests.{eq-eqb, ne_eqb}
 use lib.ListN.{length, get_or}
 use Rattle.mesh.specs.declared.element.Triple.{Triple}
 use Rattle.mesh.specs.declared.element.Tet.{Tet}
@@ -128,27 +127,21 @@ module _ (μ : Measure) (x : Index) (n : ℕ) (t : Tried) (w : List ℕ) (ts : L
   one-j h = let o = owners-two nv ts f i j fl in one-apex nv ts f i j fl s st j o.1 o.3 q (slot-j h) (slot-well nv q read-j.1 h)
 
   -- the first owner is gone
-  pub face-first : p.a ≡ 4294967295 → Left t w (try_face μ ts s f)
+  pub face-first : gone p ≡ true → Left t w (try_face μ ts s f)
   face-first e =
-      let a : get_or s.slots i none ≡ none = read-i.0 ∙ slot-none p (eq-eqb p.a 4294967295 e) in
+      let a : get_or s.slots i none ≡ none = read-i.0 ∙ slot-none p e in
       elim (split (gone q)) [
         | inl g ↦ idle (try-none nv ts f i j fl s st μ a (read-j.0 ∙ slot-none q g))
         | inr g ↦ idle (try-second nv ts f i j fl s st μ q a (slot-j g) (one-j g))
       ]
 
-  module _ (np : p.a ≡ 4294967295 → ⊥) where
-    here-p : gone p ≡ false
-    here-p = ne_eqb p.a 4294967295 np
-
+  module _ (here-p : gone p ≡ false) where
     -- the second owner is gone
-    pub face-second : q.a ≡ 4294967295 → Left t w (try_face μ ts s f)
-    face-second e = idle (try-first nv ts f i j fl s st μ p (slot-i here-p) (read-j.0 ∙ slot-none q (eq-eqb q.a 4294967295 e)) (one-i here-p))
+    pub face-second : gone q ≡ true → Left t w (try_face μ ts s f)
+    face-second e = idle (try-first nv ts f i j fl s st μ p (slot-i here-p) (read-j.0 ∙ slot-none q e) (one-i here-p))
 
-    module _ (nq : q.a ≡ 4294967295 → ⊥) (a b : ℕ) (ea : a ≡ get_or (without σ (vertices_of p)) 0 p.d) (eb : b ≡ get_or (without σ (vertices_of q)) 0 q.d)
+    module _ (here-q : gone q ≡ false) (a b : ℕ) (ea : a ≡ get_or (without σ (vertices_of p)) 0 p.d) (eb : b ≡ get_or (without σ (vertices_of q)) 0 q.d)
         (r : Bool) (found : (n c : ℕ) (s : State) → SlotsStand x n c w s → a < nv → b < nv → r ≡ any (slot_has (a ∷ b ∷ b ∷ [])) s.slots) where
-      here-q : gone q ≡ false
-      here-q = ne_eqb q.a 4294967295 nq
-
       -- the apexes are vertices besides the face
       out-a : (mem a (vertices_of p) ≡ true) × (mem a σ ≡ false) × (a < nv)
       out-a = apex-out nv ts f i j fl s st p (slot-well nv p read-i.1 here-p) (one-i here-p) a ea

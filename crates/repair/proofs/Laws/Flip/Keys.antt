@@ -1,6 +1,5 @@
 -- Triples in the area: their keys written one after the other, put in order, and compared. Assumes nothing.
 use mathlib.Core.Path.{◌≡◌, refl, sym, ap, ap₂, subst, ◌∙◌}
-use mathlib.Core.Logic.{inl, inr}
 use mathlib.Core.Bool.{Bool, true, false, ◌&&◌}
 use mathlib.Core.List.{List, [], ◌∷◌, ◌++◌, map, append_assoc}
 use Prim.Native.Nat.{ℕ, zero, suc, ◌+◌, ◌-◌, ◌*◌, ◌≤◌, ◌<◌}
@@ -9,24 +8,23 @@ use native.Mathlib.Omega.{arith}
 use borrow.Author.Tests.{le-leb}
 use borrow.Rule.Slice.PartMut.{mid_of, put_mid, mid_len}
 use lib.Dec.{eqb, leb}
-use lib.ListN.{length, take, drop, set, replicate, length-set, length-drop}
-use lib.Seq.{length-take-le, get_or-take, get_or-drop, drop-drop, drop_at, get_or-set_same, get_or-set_other}
+use lib.ListN.{length, take, drop, replicate, length-drop}
+use lib.Seq.{length-take-le, get_or-take, get_or-drop, drop-drop, drop_at}
 use Rattle.std.specs.Cmp.Lexicographic.{pointwise}
 use Rattle.mesh.specs.declared.element.Triple.{Triple}
-use Rattle.mesh.specs.Words.{word_at, flat}
+use Rattle.mesh.specs.Words.{flat}
 use Rattle.mesh.specs.Sort.{sort}
 use Rattle.mesh.specs.inside.Rows.{rows, le_row, fit_rows, sorted_area}
 use Rattle.mesh.specs.Element.{key_of, corners_of, triples}
 use Rattle.mesh.specs.Boundary.{le_triple}
-use Rattle.mesh.proofs.Laws.Parts.{side}
 use Rattle.mesh.proofs.Laws.Areas.{length-sorted}
 use Rattle.mesh.proofs.Laws.Boundary.Order.{sort-corners}
 use Rattle.mesh.proofs.Laws.Sort.{length-sort}
 use Rattle.mesh.proofs.Laws.Manifold.Whole.{triples-flat, triples-take}
 use Rattle.repair.specs.Flip.{same_triples}
 use Rattle.repair.specs.inside.Layout.{Same}
-use Rattle.repair.specs.inside.flip.Layout.{triple_at, with_triple}
-use Rattle.repair.proofs.Laws.Same.{same-trans, same-wider, same-put}
+use Rattle.repair.specs.inside.flip.Layout.{triple_at}
+use Rattle.repair.proofs.Laws.Same.{same-put}
 
 -- ---- triples read
 
@@ -60,38 +58,6 @@ triples-map f (suc c) p q w v h =
     ∙ ap₂ (λ (g : Triple) (l : List Triple). g ∷ l) here rest
     ∙ sym (ap (map f) (triples-next (suc c) q v (omega arith) ∙ ap (λ (k : ℕ). triple_at v q ∷ triples k (drop (q + 3) v)) e))
 
--- ---- a triple written
-
-module _ (f : Triple) (d : ℕ) (w : List ℕ) where
-  pub with-same : Same w (with_triple f d w) d (d + 3)
-  with-same = record {
-    long = length-set (set (set w d f.a) (d + 1) f.b) (d + 2) f.c ∙ length-set (set w d f.a) (d + 1) f.b ∙ length-set w d f.a;
-    before = λ j h. off j (λ e. omega arith) (λ e. omega arith) (λ e. omega arith);
-    behind = λ j h. off j (λ e. omega arith) (λ e. omega arith) (λ e. omega arith);
-  }
-    where
-      off : (j : ℕ) → (j ≡ d → ⊥) → (j ≡ d + 1 → ⊥) → (j ≡ d + 2 → ⊥) → word_at (with_triple f d w) j ≡ word_at w j
-      off j a b c =
-          get_or-set_other (set (set w d f.a) (d + 1) f.b) (d + 2) j f.c 0 c
-          ∙ get_or-set_other (set w d f.a) (d + 1) j f.b 0 b ∙ get_or-set_other w d j f.a 0 a
-
-  pub with_at : d + 3 ≤ length w → triple_at (with_triple f d w) d ≡ f
-  with_at h =
-      let x : List ℕ = set w d f.a in
-      let y : List ℕ = set x (d + 1) f.b in
-      let lx : length x ≡ length w = length-set w d f.a in
-      let ly : length y ≡ length w = length-set x (d + 1) f.b ∙ lx in
-      let a : word_at (set y (d + 2) f.c) d ≡ f.a =
-      get_or-set_other y (d + 2) d f.c 0 (λ e. omega arith) ∙ get_or-set_other x (d + 1) d f.b 0 (λ e. omega arith) ∙ get_or-set_same w d f.a 0 (omega arith) in
-      let b : word_at (set y (d + 2) f.c) (d + 1) ≡ f.b =
-      get_or-set_other y (d + 2) (d + 1) f.c 0 (λ e. omega arith) ∙ get_or-set_same x (d + 1) f.b 0 (omega arith) in
-      let c : word_at (set y (d + 2) f.c) (d + 2) ≡ f.c = get_or-set_same y (d + 2) f.c 0 (omega arith) in
-      rw (a, b, c) refl
-
--- a triple is the same where its words are
-pub triple-kept : (w v : List ℕ) (p : ℕ) → word_at v p ≡ word_at w p → word_at v (p + 1) ≡ word_at w (p + 1) → word_at v (p + 2) ≡ word_at w (p + 2) → triple_at v p ≡ triple_at w p
-triple-kept w v p a b c = rw (a, b, c) refl
-
 -- ---- the keys, one after the other
 
 -- the keys of j of the c triples from i on stand from d on, and the rest is as it was
@@ -100,34 +66,8 @@ pub record Keying (i d c : ℕ) (w₀ w : List ℕ) (j : ℕ) : Type 0 where
   pub same : Same w₀ w d (d + 3 * c)
   pub keys : (q : ℕ) → q < j → triple_at w (d + 3 * q) ≡ key_of (triple_at w₀ (i + 3 * q))
 
-module _ {i d c : ℕ} {w₀ w : List ℕ} {j : ℕ} (apart : i + 3 * c ≤ d) (fits : d + 3 * c ≤ length w₀) (k : Keying i d c w₀ w j) where
-  pub keying-turn : j < c → (w' : List ℕ) → w' ≡ with_triple (key_of (triple_at w (i + 3 * j))) (d + 3 * j) w → Keying i d c w₀ w' (j + 1)
-  keying-turn h w' e = subst (λ (u : List ℕ). Keying i d c w₀ u (j + 1)) (sym e) (record {
-    done = omega arith;
-    same = same-trans k.same (same-wider d (d + 3 * c) (omega arith) (omega arith) s);
-    keys = λ q g. elim (side q j) [
-      | inl l ↦ triple-kept w t (d + 3 * q) (s.before _ (omega arith)) (s.before _ (omega arith)) (s.before _ (omega arith)) ∙ k.keys q l
-      | inr l ↦
-          let n : q ≡ j = omega arith in
-          ap (λ (u : ℕ). triple_at t (d + 3 * u)) n ∙ with_at g₁ (d + 3 * j) w (let y = k.same.long in omega arith) ∙ ap key_of old
-          ∙ ap (λ (u : ℕ). key_of (triple_at w₀ (i + 3 * u))) (sym n)
-    ];
-  })
-    where
-      g₁ : Triple
-      g₁ = key_of (triple_at w (i + 3 * j))
-
-      t : List ℕ
-      t = with_triple g₁ (d + 3 * j) w
-
-      s : Same w t (d + 3 * j) (d + 3 * j + 3)
-      s = with-same g₁ (d + 3 * j) w
-
-      old : triple_at w (i + 3 * j) ≡ triple_at w₀ (i + 3 * j)
-      old = triple-kept w₀ w (i + 3 * j) (k.same.before _ (omega arith)) (k.same.before _ (omega arith)) (k.same.before _ (omega arith))
-
-  pub keying-end : c ≤ j → (triples c (drop d w) ≡ map key_of (triples c (drop i w₀))) × Same w₀ w d (d + 3 * c)
-  keying-end h = (triples-map key_of c d i w w₀ (λ q g. k.keys q (omega arith)), k.same)
+pub keying-end : {i d c : ℕ} {w₀ w : List ℕ} {j : ℕ} → Keying i d c w₀ w j → c ≤ j → (triples c (drop d w) ≡ map key_of (triples c (drop i w₀))) × Same w₀ w d (d + 3 * c)
+keying-end {i} {d} {c} {w₀} {w} k h = (triples-map key_of c d i w w₀ (λ q g. k.keys q (omega arith)), k.same)
 
 -- ---- compared
 

@@ -4,15 +4,14 @@ use mathlib.Core.Path.{◌≡◌, refl, sym, ap, subst, ◌∙◌}
 use mathlib.Core.Bool.{Bool, true, false, not, cond}
 use mathlib.Core.List.{List, [], ◌∷◌, map}
 use mathlib.Core.Option.{none, some}
-use Prim.Native.Nat.{ℕ, ◌+◌, ◌*◌, ◌≤◌, ◌<◌}
+use Rattle.std.specs.Prelude as std
+use Prim.Native.Nat.{ℕ, ◌+◌, ◌*◌, ◌≤◌}
 use native.Mathlib.Omega.{arith}
-use lib.ListN.{length, drop, get_or-eq_default}
+use lib.ListN.{length, drop}
 use Rattle.mesh.specs.declared.element.Tet.{Tet}
 use Rattle.mesh.specs.declared.star.Index.{Index}
-use Rattle.mesh.specs.Words.{word_at}
 use Rattle.mesh.specs.Tests.{every}
 use Rattle.mesh.specs.Complex.{keep}
-use Rattle.mesh.specs.Element.{triple}
 use Rattle.mesh.specs.inside.List.{gone}
 use Rattle.mesh.specs.inside.Star.{Laid}
 use Rattle.mesh.specs.inside.About as About
@@ -21,7 +20,7 @@ use Rattle.mesh.proofs.Laws.Boundary.Same.{length-map}
 use Rattle.mesh.proofs.Laws.Intake.Reads.{length-tets}
 use Rattle.repair.specs.Flip.{State, live}
 use Rattle.repair.specs.inside.Layout.{Same, slot_ok, slots_in}
-use Rattle.repair.specs.inside.flip.Layout.{FlipRoom, SlotsStand, Kept, slot_of, triple_at}
+use Rattle.repair.specs.inside.flip.Layout.{FlipRoom, SlotsStand, Kept, slot_of, live_of}
 
 -- the areas of the index lie one behind the other
 pub room-laid : {x : Index} {n m : ℕ} → FlipRoom x n m → Laid x m
@@ -41,6 +40,21 @@ slot-none t h = rw h refl
 pub slot-some : (t : Tet) → gone t ≡ false → slot_of t ≡ some t
 unfolding slot_of
 slot-some t h = rw h refl
+
+-- an element that `live_slot` gives, or none
+pub live-none : (t : Tet) → live_of t ≡ std.None → gone t ≡ true
+live-none t = go (gone t)
+  where
+    go : (b : Bool) → cond b std.None (std.Some t) ≡ std.None → b ≡ true
+    go true e = refl
+    go false e = absurd cc
+
+pub live-some : (t p : Tet) → live_of t ≡ std.Some p → (p ≡ t) × (gone p ≡ false)
+live-some t p = go (gone t) refl
+  where
+    go : (b : Bool) → gone t ≡ b → cond b std.None (std.Some t) ≡ std.Some p → (p ≡ t) × (gone p ≡ false)
+    go true g e = absurd cc
+    go false g e = let h : t ≡ p = cc in (sym h, ap gone (sym h) ∙ g)
 
 -- the live elements are those of the slots that are not gone
 pub live-slots : (ts : List Tet) → live (map slot_of ts) ≡ keep About.live ts
@@ -83,10 +97,3 @@ kept-area k = record { long = k.long; listed = λ j a b. k.before j b }
 
 pub kept_trans : {x : Index} {w t u : List ℕ} → Kept x w t → Kept x t u → Kept x w u
 kept_trans p q = record { long = q.long ∙ p.long; listed = λ j a b. q.listed j a b ∙ p.listed j a b }
-
--- a triple past the end
-pub triple-past : (w : List ℕ) (p : ℕ) → length w < p → triple 0 0 0 ≡ triple_at w p
-triple-past w p h = sym (rw (past p (omega arith), past (p + 1) (omega arith), past (p + 2) (omega arith)) refl)
-  where
-    past : (i : ℕ) → length w ≤ i → word_at w i ≡ 0
-    past i l = get_or-eq_default w 0 l

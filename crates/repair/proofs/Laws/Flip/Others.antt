@@ -4,13 +4,12 @@ use mathlib.Core.Path.{◌≡◌, refl, sym, ap, ap₂, subst, ◌∙◌}
 use mathlib.Core.Logic.{inl, inr}
 use mathlib.Core.Bool.{Bool, true, false, not, cond}
 use mathlib.Core.List.{List, [], ◌∷◌, ◌++◌, Memᴰ}
-use Prim.Native.Nat.{ℕ, suc, ◌+◌, ◌-◌, ◌*◌, ◌≤◌, ◌<◌}
+use Prim.Native.Nat.{ℕ, suc, ◌+◌, ◌*◌, ◌≤◌, ◌<◌}
 use native.Mathlib.Nat.{add-zero}
 use native.Mathlib.Omega.{arith}
 use borrow.Author.Tests.{eq-eqb, ne_eqb}
-use borrow.Rule.Slice.PartMut.{mid_of, post_of, put_mid}
 use lib.ListN.{length, get_or, take, drop, set, length-append, drop_of_length-le}
-use lib.Seq.{get_or-take, get_or-drop, length-take-le, take_all, take_at, drop_at, drop-cons, take-append-le}
+use lib.Seq.{get_or-take, get_or-drop, take_at, drop-cons}
 use Rattle.mesh.specs.declared.element.Pair.{Pair}
 use Rattle.mesh.specs.declared.element.Triple.{Triple}
 use Rattle.mesh.specs.declared.element.Tet.{Tet}
@@ -20,15 +19,13 @@ use Rattle.mesh.specs.inside.Rows.{sorted_area, unique_rows, unique_area}
 use Rattle.mesh.specs.Element.{vertices_of}
 use Rattle.mesh.specs.Link.{without}
 use Rattle.mesh.specs.inside.Star.{written, distinct}
-use Rattle.mesh.proofs.Laws.Parts.{side}
 use Rattle.mesh.proofs.Laws.Complex.Sets.{or_cases, mem-nil}
 use Rattle.mesh.proofs.Laws.Star.Singles.{kinds-count, kinds-area}
 use Rattle.mesh.proofs.Laws.Star.Written.{length-written, written-part, written-more, written_none, written_one}
 use Rattle.repair.specs.Flip.{besides}
 use Rattle.repair.specs.inside.flip.Layout.{triple_at}
 use Rattle.repair.specs.inside.flip.Tries.{edge_row}
-use Rattle.repair.specs.inside.flip.ThreeToTwo.{others_of, Puts, ListedAt}
-use Rattle.repair.proofs.Laws.Same.{same-wider, same-put}
+use Rattle.repair.specs.inside.flip.ThreeToTwo.{others_of, Puts}
 use Rattle.repair.proofs.Laws.Site.Near.{mem-append}
 use Rattle.repair.proofs.Laws.Flip.Owners.{without-elim}
 use Rattle.repair.proofs.Laws.Flip.Edge.{three-of}
@@ -54,9 +51,6 @@ puts-long {s} {t} {k} {n} {l} h a = ap length a.words ∙ length-written s k l (
 pub record Putting (s : List ℕ) (k : ℕ) (all w : List ℕ) (n : ℕ) (left : List ℕ) : Type 0 where
   pub long : length w ≡ length s
   pub rest : (p : ℕ) (u : List ℕ) → Puts w n left p u → Puts s k all p u
-
-putting-start : (s : List ℕ) (k : ℕ) (all : List ℕ) → Putting s k all s k all
-putting-start s k all = record { long = refl; rest = λ p u h. h }
 
 putting-turn : {s : List ℕ} {k : ℕ} {all w : List ℕ} {n : ℕ} {l m v : List ℕ} {p : ℕ} → Putting s k all w n (l ++ m) → p ≤ length w → Puts w n l p v → Putting s k all v p m
 putting-turn {l = l} {m = m} q h a = record { long = puts-long h a ∙ q.long; rest = λ p u b. q.rest p u (puts-more {l = l} {m = m} h a b) }
@@ -145,18 +139,6 @@ module _ (e : Pair) where
       (count, ap (take r) area ∙ take_at (distinct all) (drop (length (distinct all)) (sorted_area n 1 s₃)) r (sym count))
 
 -- ---- a lent part
-
--- a list at the front of the part from a on
-pub part-listed : (w : List ℕ) (a : ℕ) (l p : List ℕ) (r : ℕ) → a + 24 ≤ length w → length p ≡ length (mid_of a (a + 24 - a) w) → (r ≡ length l) × (take r p ≡ l)
-    → ListedAt a l w (put_mid a (a + 24 - a) w p) r
-part-listed w a l p r h g k = record {
-  count = k.0;
-  words = ap (take r) (drop_at (take a w) (p ++ post_of a (a + 24 - a) w) a (length-take-le a w (omega arith))) ∙ take-append-le r p (post_of a (a + 24 - a) w) few ∙ k.1;
-  same = same-wider a (length w) (omega arith) h (same-put a (a + 24) w p (omega arith) h g);
-}
-  where
-    few : r ≤ length p
-    few = elim (side r (length p)) [ inl y ↦ omega arith | inr y ↦ (let z = k.0 in let q = ap length (sym (take_all r p y) ∙ k.1) in omega arith) ]
 
 -- ---- what they are
 

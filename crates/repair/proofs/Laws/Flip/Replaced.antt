@@ -19,7 +19,7 @@ use Rattle.mesh.proofs.Laws.Boundary.Same.{length-map}
 use Rattle.repair.specs.declared.flip.counts.Tried.{Tried}
 use Rattle.repair.specs.Flip.{State, live, emptied, elements_at, oriented, accepted, replace}
 use Rattle.repair.specs.inside.flip.Layout.{SlotsStand, Kept}
-use Rattle.repair.specs.inside.flip.Tries.{Holds, Counted, Counts, Old}
+use Rattle.repair.specs.inside.flip.Tries.{Holds, Old}
 use Rattle.repair.specs.inside.flip.Replace.{Empties, Adds}
 use Rattle.repair.proofs.Laws.Flip.Slots.{none-some, live-some}
 use Rattle.repair.proofs.Laws.Flip.Numbered.{oriented-numbered}
@@ -107,10 +107,6 @@ module _ {x : Index} {c : ℕ} {ts : List Tet} {w u : List ℕ} {i : ℕ} (k : A
 
   pub adding-end : length ts ≤ i → Adds x c ts w u
   adding-end h = k.rest u (subst (λ (us : List Tet). Adds x (c + i) us u u) (sym (drop_of_length-le ts h)) (adds_none {c = c + i}))
-
--- the numbers stay small
-pub counts_same : {x : Index} {t : Tried} → Counted x t → Counts t t
-counts_same k = record { slots = k.slots; flips = omega arith }
 
 -- ---- the old elements
 

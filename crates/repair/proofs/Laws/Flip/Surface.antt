@@ -10,7 +10,6 @@ use lib.ListN.{length, drop}
 use lib.Seq.{get_or-take, get_or-drop, paste}
 use Rattle.mesh.specs.declared.element.Triple.{Triple}
 use Rattle.mesh.specs.Words.{word_at, inside, copied}
-use Rattle.mesh.specs.Sort.{sort}
 use Rattle.mesh.specs.Element.{key_of, triples}
 use Rattle.mesh.specs.Boundary.{same_triple, le_triple}
 use Rattle.mesh.proofs.Laws.Bools.{split, clash}
@@ -64,13 +63,6 @@ module _ (x d : List ℕ) (k n : ℕ) (hx : n ≤ length x) (hd : k + n ≤ leng
   copied-words j h =
       ap (λ (u : List ℕ). word_at (drop k u) j) pasted ∙ sym (get_or-take n (drop k (paste d k x n)) j 0 h)
       ∙ ap (λ (u : List ℕ). word_at u j) (paste-part d x k n hd hx) ∙ get_or-take n x j 0 h
-
--- ---- keys written and put in order
-
-pub keys-sorted : (i d c : ℕ) (s₀ s₁ s₂ : List ℕ) → (triples c (drop d s₁) ≡ map key_of (triples c (drop i s₀))) × Same s₀ s₁ d (d + 3 * c)
-    → (triples c (drop d s₂) ≡ sort le_triple (triples c (drop d s₁))) × Same s₁ s₂ d (d + 6 * c)
-    → (triples c (drop d s₂) ≡ sorted_keys (triples c (drop i s₀))) × Same s₀ s₂ d (d + 6 * c)
-keys-sorted i d c s₀ s₁ s₂ a b = (b.0 ∙ ap (sort le_triple) a.0, same-trans (same-wider d (d + 6 * c) (omega arith) (omega arith) a.1) b.1)
 
 -- ---- both surfaces
 

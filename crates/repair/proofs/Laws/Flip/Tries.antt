@@ -4,14 +4,14 @@ use mathlib.Core.List.{List, [], ◌∷◌, map}
 use mathlib.Core.Option.{Option}
 use Prim.Native.Nat.{ℕ, zero, suc, ◌+◌, ◌*◌, ◌≤◌, ◌<◌}
 use native.Mathlib.Omega.{arith}
-use lib.Ieee.{Float}
 use lib.ListN.{length, take, drop, get_or, get_or-map}
 use lib.Seq.{drop-cons, drop-length, get_or-take, get_or-drop}
+use Rattle.geometry.specs.declared.point.Point.{Point}
 use Rattle.mesh.specs.declared.element.Pair.{Pair}
 use Rattle.mesh.specs.declared.element.Triple.{Triple}
 use Rattle.mesh.specs.declared.element.Tet.{Tet}
 use Rattle.mesh.specs.declared.star.Index.{Index}
-use Rattle.mesh.specs.Words.{word_at, points_of}
+use Rattle.mesh.specs.Words.{word_at}
 use Rattle.mesh.specs.inside.Rows.{rows}
 use Rattle.mesh.specs.Element.{pair, triple}
 use Rattle.mesh.specs.inside.Shared.{owners, shared_row}
@@ -92,15 +92,15 @@ pub record Faces (x : Index) (n count : ℕ) (w₀ : List ℕ) (ts : List Tet) (
   pub bound : FacesBound n s.slots
 
 -- i faces are tried
-pub record AtFace (x : Index) (n count : ℕ) (ps : List Float) (w₀ w : List ℕ) (t : Tried) (i : ℕ) : Type 0 where
+pub record AtFace (x : Index) (n count : ℕ) (ps : List Point) (w₀ w : List ℕ) (t : Tried) (i : ℕ) : Type 0 where
   pub most : i ≤ count
   pub long : length w ≡ length w₀
   pub slots : t.slots ≤ 131072
   pub flips : t.flips ≤ i
   pub reached : (ts : List Tet) (fs : List Triple) (s : State) → Faces x n count w₀ ts fs s
-      → Reached (try_faces (measure (points_of x.vertices ps)) ts) (Start ts) (FacesBound n) x n w₀ fs s w t i
+      → Reached (try_faces (measure ps) ts) (Start ts) (FacesBound n) x n w₀ fs s w t i
 
-module _ {x : Index} {n count : ℕ} {ps : List Float} {w₀ : List ℕ} (room : FlipRoom x n (length w₀)) (few : count ≤ 4 * n) where
+module _ {x : Index} {n count : ℕ} {ps : List Point} {w₀ : List ℕ} (room : FlipRoom x n (length w₀)) (few : count ≤ 4 * n) where
   pub faces-start : AtFace x n count ps w₀ w₀ (record { slots = n; flips = 0 }) 0
   faces-start = record {
     most = omega arith;
@@ -117,7 +117,7 @@ module _ {x : Index} {n count : ℕ} {ps : List Float} {w₀ : List ℕ} (room :
 
   module _ {w : List ℕ} {t : Tried} {i : ℕ} (q : AtFace x n count ps w₀ w t i) where
     pub faces-end : count ≤ i → (ts : List Tet) (fs : List Triple) (s : State) → Faces x n count w₀ ts fs s
-        → Went x n (FacesBound n) w₀ w t (try_faces (measure (points_of x.vertices ps)) ts s fs)
+        → Went x n (FacesBound n) w₀ w t (try_faces (measure ps) ts s fs)
     unfolding try_faces
     faces-end h ts fs s y =
         let a = rows-many (shared_row ts) 5 count (face_rows_at x n) i w₀ fs (triple 0 0 0) y.rows in
@@ -150,7 +150,7 @@ module _ {x : Index} {n count : ℕ} {ps : List Float} {w₀ : List ℕ} (room :
 
         pub faces-turn : (v : List ℕ) (r : Tried) → length v ≡ length w → Counts t r
             → ((n : ℕ) (ts : List Tet) (s : State) → Holds x n t w s → length ts ≡ n → FaceListed x.vertices ts f a b → Start ts s → FacesBound n s.slots
-            → Went x n (FacesBound n) w v r (try_face (measure (points_of x.vertices ps)) ts s f) × Start ts (try_face (measure (points_of x.vertices ps)) ts s f))
+            → Went x n (FacesBound n) w v r (try_face (measure ps) ts s f) × Start ts (try_face (measure ps) ts s f))
             → AtFace x n count ps w₀ v r (i + 1)
         unfolding try_faces
         faces-turn v r l c d = record {
@@ -161,8 +161,8 @@ module _ {x : Index} {n count : ℕ} {ps : List Float} {w₀ : List ℕ} (room :
           reached = λ ts fs s y.
               let m = rows-many (shared_row ts) 5 count (face_rows_at x n) i w₀ fs (triple 0 0 0) y.rows in
               let z = q.reached ts fs s y in
-              reached-turn z (try_face (measure (points_of x.vertices ps)) ts) (λ u g k. refl) (triple 0 0 0) (omega arith) v r
-              (subst (λ (g : Triple). Went x n (FacesBound n) w v r (try_face (measure (points_of x.vertices ps)) ts z.state g) × Start ts (try_face (measure (points_of x.vertices ps)) ts z.state g)) (face-is ts fs s y)
+              reached-turn z (try_face (measure ps) ts) (λ u g k. refl) (triple 0 0 0) (omega arith) v r
+              (subst (λ (g : Triple). Went x n (FacesBound n) w v r (try_face (measure ps) ts z.state g) × Start ts (try_face (measure ps) ts z.state g)) (face-is ts fs s y)
               (d n ts z.state z.went.holds y.many (listed_here ts fs s y) z.start z.went.room));
         }
 
@@ -181,15 +181,15 @@ pub record Edges (x : Index) (n bad count : ℕ) (t₀ : Tried) (w₀ : List ℕ
   pub bound : EdgesBound n s.slots
 
 -- i edges are tried
-pub record AtEdge (x : Index) (n bad count : ℕ) (t₀ : Tried) (ps : List Float) (w₀ w : List ℕ) (t : Tried) (i : ℕ) : Type 0 where
+pub record AtEdge (x : Index) (n bad count : ℕ) (t₀ : Tried) (ps : List Point) (w₀ w : List ℕ) (t : Tried) (i : ℕ) : Type 0 where
   pub most : i ≤ count
   pub long : length w ≡ length w₀
   pub slots : t.slots ≤ 131072
   pub flips : t.flips ≤ 4 * n + i
   pub reached : (es : List Pair) (s : State) → Edges x n bad count t₀ w₀ es s
-      → Reached (try_edges (measure (points_of x.vertices ps))) (λ (u : State). Unit {0}) (EdgesBound n) x n w₀ es s w t i
+      → Reached (try_edges (measure ps)) (λ (u : State). Unit {0}) (EdgesBound n) x n w₀ es s w t i
 
-module _ {x : Index} {n bad count : ℕ} {t₀ : Tried} {ps : List Float} {w₀ : List ℕ} (room : FlipRoom x n (length w₀)) (few_bad : bad ≤ n) (few : count ≤ 6 * n) where
+module _ {x : Index} {n bad count : ℕ} {t₀ : Tried} {ps : List Point} {w₀ : List ℕ} (room : FlipRoom x n (length w₀)) (few_bad : bad ≤ n) (few : count ≤ 6 * n) where
   pub edges-start : t₀.slots ≤ 131072 → t₀.flips ≤ 4 * n → AtEdge x n bad count t₀ ps w₀ w₀ t₀ 0
   edges-start a b = record {
     most = omega arith;
@@ -206,7 +206,7 @@ module _ {x : Index} {n bad count : ℕ} {t₀ : Tried} {ps : List Float} {w₀ 
 
   module _ {w : List ℕ} {t : Tried} {i : ℕ} (q : AtEdge x n bad count t₀ ps w₀ w t i) where
     pub edges-end : count ≤ i → (es : List Pair) (s : State) → Edges x n bad count t₀ w₀ es s
-        → Went x n (EdgesBound n) w₀ w t (try_edges (measure (points_of x.vertices ps)) s es)
+        → Went x n (EdgesBound n) w₀ w t (try_edges (measure ps) s es)
     unfolding try_edges
     edges-end h es s y =
         let a = rows-many edge_row 2 count (edge_rows_at x n bad) i w₀ es (pair 0 0) y.rows in
@@ -225,7 +225,7 @@ module _ {x : Index} {n bad count : ℕ} {t₀ : Tried} {ps : List Float} {w₀ 
         edge-is = ap₂ pair (ea ∙ end-word 0 _ (omega arith) (omega arith)) (eb ∙ end-word 1 _ (omega arith) (omega arith))
 
       pub edges-turn : (v : List ℕ) (r : Tried) → length v ≡ length w → Counts t r
-          → ((n : ℕ) (s : State) → Holds x n t w s → EdgeListed x.vertices e → EdgesBound n s.slots → Went x n (EdgesBound n) w v r (try_edge (measure (points_of x.vertices ps)) s e))
+          → ((n : ℕ) (s : State) → Holds x n t w s → EdgeListed x.vertices e → EdgesBound n s.slots → Went x n (EdgesBound n) w v r (try_edge (measure ps) s e))
           → AtEdge x n bad count t₀ ps w₀ v r (i + 1)
       unfolding try_edges
       edges-turn v r l c d = record {
@@ -236,8 +236,8 @@ module _ {x : Index} {n bad count : ℕ} {t₀ : Tried} {ps : List Float} {w₀ 
         reached = λ es s y.
             let m = rows-many edge_row 2 count (edge_rows_at x n bad) i w₀ es (pair 0 0) y.rows in
             let z = q.reached es s y in
-            reached-turn z (try_edge (measure (points_of x.vertices ps))) (λ u g k. refl) (pair 0 0) (omega arith) v r (
-              subst (λ (g : Pair). Went x n (EdgesBound n) w v r (try_edge (measure (points_of x.vertices ps)) z.state g)) (edge-is es s y)
+            reached-turn z (try_edge (measure ps)) (λ u g k. refl) (pair 0 0) (omega arith) v r (
+              subst (λ (g : Pair). Went x n (EdgesBound n) w v r (try_edge (measure ps) z.state g)) (edge-is es s y)
                   (d n z.state z.went.holds (subst (EdgeListed x.vertices) (sym (edge-is es s y)) (edges-at x.vertices (pair 0 0) es i (omega arith) y.listed)) z.went.room),
               tt,
             );

@@ -42,16 +42,13 @@ use Rattle.repair.proofs.Laws.Flip.Begun.{numbered-fours, numbered-live, faces-l
 use Rattle.repair.proofs.Laws.Flip.Fewer.{edges-fewer}
 use Rattle.mesh.proofs.Laws.Intake.Reads.{length-tets}
 
-module _ (z : Sizes) (points : List Float) (es ss w₀ : List ℕ) (fit : FlipFitting z es ss w₀) (x : Index) (many : x.vertices ≡ z.vertices) where
-  -- how many elements, the elements, and the points
+module _ (z : Sizes) (points : List Float) (es ss w₀ : List ℕ) (fit : FlipFitting z es ss w₀) (x : Index) (many : x.vertices ≡ z.vertices) (ps : List Point) (read : ps ≡ points_of z.vertices points) where
+  -- how many elements, and the elements
   abbrev n : ℕ
   n = z.elements
 
   abbrev ts : List Tet
   ts = tets n es
-
-  abbrev ps : List Point
-  ps = points_of x.vertices points
 
   -- the elements are well numbered
   pub well : every (well_numbered x.vertices) (tets z.elements es) ≡ true
@@ -77,7 +74,7 @@ module _ (z : Sizes) (points : List Float) (es ss w₀ : List ℕ) (fit : FlipFi
   unfolding flips
   last-is =
       ap (λ (s : State). try_edges (measure ps) s (listed_edges (measure ps) ts)) (shared-tried ps ts (numbered-live x.vertices ts few well) (numbered-fours x.vertices ts well) first)
-      ∙ ap (λ (v : ℕ). flips (measure (points_of v points)) ts) many
+      ∙ ap (λ (u : List Point). flips (measure u) ts) read
 
   module _ (l : Lists) (w₁ : List ℕ) (b : Begun x n ps ts l w₁) where
     -- the faces are tried

@@ -7,7 +7,6 @@ use Prim.Native.Nat.{ℕ, zero, suc, ◌+◌, ◌*◌, ◌≤◌, ◌<◌}
 use native.Mathlib.Nat.{add-zero}
 use native.Mathlib.Omega.{arith}
 use lib.Dec.{eqb, ltb}
-use lib.Ieee.{Float}
 use lib.ListN.{length, drop, get_or-eq_default}
 use lib.Seq.{get_or-drop, drop-drop}
 use borrow.Author.Tests.{eqb-true, ltb-true}
@@ -16,7 +15,7 @@ use Rattle.geometry.specs.declared.point.Point.{Point}
 use Rattle.mesh.specs.declared.element.Pair.{Pair}
 use Rattle.mesh.specs.declared.element.Tet.{Tet}
 use Rattle.mesh.specs.declared.star.Index.{Index}
-use Rattle.mesh.specs.Words.{word_at, points_of}
+use Rattle.mesh.specs.Words.{word_at}
 use Rattle.mesh.specs.Complex.{mem, keep}
 use Rattle.mesh.specs.Tests.{every, nodup, under, any}
 use Rattle.mesh.specs.Sets.{among}
@@ -212,11 +211,11 @@ module _ (x : Index) (n k : ℕ) (w : List ℕ) (r : Room x n (length w)) (p : P
       ∙ ap (about (pairs_in x k w)) (sym z.elements)
 
   -- what they gain is what those of the state gain
-  pub gain-is : {t : List ℕ} {c : ℕ} → Around x n k w t c → (fs : List Float) (b : Bool)
-      → b ≡ gains (measure (points_of x.vertices fs)) (tets c (drop (x.area + c) t)) (collapsed (pairs_in x k t) (tets c (drop (x.area + c) t)))
-      → (o : Options) (m : Mesh) (s : State) → m.points ≡ points_of x.vertices fs → Stands o m x n w s
+  pub gain-is : {t : List ℕ} {c : ℕ} → Around x n k w t c → (ps : List Point) (b : Bool)
+      → b ≡ gains (measure ps) (tets c (drop (x.area + c) t)) (collapsed (pairs_in x k t) (tets c (drop (x.area + c) t)))
+      → (o : Options) (m : Mesh) (s : State) → m.points ≡ ps → Stands o m x n w s
       → b ≡ gains (measure m.points) (about (pairs_in x k w) s.elements) (collapsed (pairs_in x k w) (about (pairs_in x k w) s.elements))
-  gain-is a fs b e o m s em z =
+  gain-is a ps b e o m s em z =
       let l = about (pairs_in x k w) s.elements in
-      e ∙ ap₂ (λ (u : List Pair) (ts : List Tet). gains (measure (points_of x.vertices fs)) ts (collapsed u ts)) a.pairs (a.elements ∙ about-live o m s z)
-      ∙ ap (λ (ps : List Point). gains (measure ps) l (collapsed (pairs_in x k w) l)) (sym em)
+      e ∙ ap₂ (λ (u : List Pair) (ts : List Tet). gains (measure ps) ts (collapsed u ts)) a.pairs (a.elements ∙ about-live o m s z)
+      ∙ ap (λ (u : List Point). gains (measure u) l (collapsed (pairs_in x k w) l)) (sym em)

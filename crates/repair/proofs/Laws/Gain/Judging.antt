@@ -16,7 +16,6 @@ use Rattle.geometry.specs.Float.{◌+₆₄◌, ◌*₆₄◌, smaller}
 use Rattle.geometry.specs.Literals.{tenth, e_12, thousandth_more}
 use Rattle.mesh.specs.declared.element.Pair.{Pair}
 use Rattle.mesh.specs.declared.element.Tet.{Tet}
-use Rattle.mesh.specs.declared.measure.Measured.{Measured}
 use Rattle.mesh.specs.Words.{word_at}
 use Rattle.mesh.specs.Tests.{every, nodup}
 use Rattle.mesh.specs.Element.{pair, tets, vertices_of}
@@ -25,7 +24,7 @@ use Rattle.repair.specs.declared.quality.Tally.{Tally}
 use Rattle.repair.specs.Improve.{image, image_of, collapsed, gains}
 use Rattle.repair.specs.inside.Layout.{pairs_of}
 use Rattle.repair.specs.inside.Quality.{started, counted, tallied, allowed, judged, all_judged}
-use Rattle.repair.proofs.Laws.Measured.{measured-above, measured-score}
+use Rattle.repair.proofs.Laws.Measured.{measured-none, measured-some}
 use Rattle.repair.proofs.Laws.Gain.Tallies.{element_at, tets-from, tets-none, counted-few, tallied-lowest, tallied-bad}
 
 -- ---- the image of a vertex
@@ -90,19 +89,19 @@ module _ (ps : List Point) (limit : Float) (r : Tally) (u : Tet) where
   unfolding judged
   judged-over e = sym (rw e refl)
 
-  module _ (e : nodup (vertices_of u) ≡ true) (m : Measured) (em : m ≡ measured_of ps u) where
-    pub judged-flat : m.above ≡ false → None ≡ judged (measure ps) limit r u
+  module _ (e : nodup (vertices_of u) ≡ true) where
+    pub judged-flat : measured_of ps u ≡ None → None ≡ judged (measure ps) limit r u
     unfolding judged
-    judged-flat h = sym (rw (e, sym (measured-above ps u em) ∙ h) refl)
+    judged-flat h = sym (rw (e, measured-none ps u h) refl)
 
-    module _ (h : m.above ≡ true) where
-      pub judged-worse : lt (m.score +₆₄ e_12) limit ≡ true → None ≡ judged (measure ps) limit r u
+    module _ (s : Float) (h : measured_of ps u ≡ Some s) where
+      pub judged-worse : lt (s +₆₄ e_12) limit ≡ true → None ≡ judged (measure ps) limit r u
       unfolding judged
-      judged-worse g = sym (rw (e, sym (measured-above ps u em) ∙ h, sym (measured-score ps u em h), g) refl)
+      judged-worse g = let m = measured-some ps u s h in sym (rw (e, m.0, m.1, g) refl)
 
-      pub judged-well : lt (m.score +₆₄ e_12) limit ≡ false → Some (counted r m.score) ≡ judged (measure ps) limit r u
+      pub judged-well : lt (s +₆₄ e_12) limit ≡ false → Some (counted r s) ≡ judged (measure ps) limit r u
       unfolding judged
-      judged-well g = sym (rw (e, sym (measured-above ps u em) ∙ h, sym (measured-score ps u em h), g) refl)
+      judged-well g = let m = measured-some ps u s h in sym (rw (e, m.0, m.1, g) refl)
 
 -- ---- the loop over the images
 

@@ -1,38 +1,26 @@
--- The link tests on a part of the work slice, and on the first masks. Assumes nothing.
+-- The link tests on a part of the work slice. Assumes nothing.
 use mathlib.Core.Path.{◌≡◌, refl, sym, ap, ◌∙◌}
-use mathlib.Core.Logic.{inl, inr}
 use mathlib.Core.Bool.{Bool, true, false, ◌&&◌}
 use mathlib.Core.List.{List}
-use Prim.Native.Nat.{ℕ, ◌+◌, ◌-◌, ◌*◌, ◌≤◌, min}
+use Prim.Native.Nat.{ℕ, ◌+◌, ◌-◌, ◌*◌, ◌≤◌}
 use native.Mathlib.Omega.{arith}
-use lib.ListN.{length, take, drop}
-use lib.Seq.{get_or-take, take_all}
+use lib.ListN.{length, drop}
+use lib.Seq.{get_or-take}
 use borrow.Author.Tests.{le-leb}
-use borrow.Rule.Slice.PartMut.{mid_of, put_mid, mid_len}
+use borrow.Rule.Slice.PartMut.{mid_of, mid_len}
 use Rattle.mesh.specs.declared.element.Tet.{Tet}
 use Rattle.mesh.specs.Complex.{sub}
 use Rattle.mesh.specs.Tests.{every, nodup, any}
 use Rattle.mesh.specs.Element.{tets, vertices_of}
 use Rattle.mesh.specs.Feature.{bits_of, link_ok, link_fits, link_ok_in}
 use Rattle.mesh.specs.Manifold.{Tested}
-use Rattle.mesh.proofs.Laws.Parts.{side}
 use Rattle.mesh.proofs.Laws.Star.Calls.{tets-same}
 use Rattle.repair.specs.Mesh.{has}
-use Rattle.repair.specs.inside.Layout.{Same}
 use Rattle.repair.specs.inside.improve.PairTest.{elements_link}
-use Rattle.repair.proofs.Laws.Same.{same-put}
 
 -- elements at the front of a part
 pub part-tets : (k i c : ℕ) (s : List ℕ) → 4 * k ≤ c → tets k (mid_of i c s) ≡ tets k (drop i s)
 part-tets k i c s h = tets-same k (drop i s) (mid_of i c s) (λ j g. get_or-take c (drop i s) j 0 (omega arith))
-
--- the first n masks, or all
-pub take_min : (n : ℕ) (l : List ℕ) → take (min n (length l)) l ≡ take n l
-take_min n l =
-    elim (side n (length l)) [
-      | inl h ↦ ap (λ (u : ℕ). take u l) (let e : min n (length l) ≡ n = omega arith in e)
-      | inr h ↦ ap (λ (u : ℕ). take u l) (let e : min n (length l) ≡ length l = omega arith in e) ∙ take_all (length l) l (omega arith) ∙ sym (take_all n l h)
-    ]
 
 module _ (stratum : ℕ → ℕ) (a b i k : ℕ) (s : List ℕ) (few : k ≤ 16384) (fits : i + 88 * k ≤ length s)
     (different : every (λ t. nodup (vertices_of t)) (tets k (drop i s)) ≡ true) where
@@ -71,7 +59,3 @@ module _ (stratum : ℕ → ℕ) (a b i k : ℕ) (s : List ℕ) (few : k ≤ 163
       ap (λ (u : Tested). u.answer) e ∙ part-answer
       ∙ ap (λ (l : List Tet). sub (bits_of (stratum a)) (bits_of (stratum b)) && link_ok stratum a b l) part-is
       ∙ sym (ap (λ (c : Bool). c && (sub (bits_of (stratum a)) (bits_of (stratum b)) && link_ok stratum a b (tets k (drop i s)))) (sym (ap (any both) part-is) ∙ h))
-
-  -- the words outside the part stay
-  pub link-same : (p : List ℕ) → length p ≡ length part → Same s (put_mid i (i + 88 * k - i) s p) i (i + 88 * k)
-  link-same p e = same-put i (i + 88 * k) s p (omega arith) fits e

@@ -18,7 +18,7 @@ use Rattle.mesh.specs.Group.{group_of}
 use Rattle.mesh.specs.inside.List.{gone}
 use Rattle.mesh.proofs.Laws.Parts.{part_same, rest-same}
 use Rattle.mesh.proofs.Laws.Star.Chains.{complete-kept}
-use Rattle.repair.specs.declared.improve.partners.Run.{Run}
+use Rattle.repair.specs.declared.layout.Run.{Run}
 use Rattle.repair.specs.Mesh.{Mesh}
 use Rattle.repair.specs.Improve.{State, active_group, partners, pair_off}
 use Rattle.repair.specs.inside.Layout.{flags_at, pairs_at, Room, live_in, slot_ok, Same, Stands}

@@ -18,7 +18,7 @@ use Rattle.mesh.specs.Tests.{every, nodup}
 use Rattle.mesh.specs.inside.Star.{written}
 use Rattle.mesh.proofs.Laws.Complex.Sets.{and-fst, and-snd}
 use Rattle.mesh.proofs.Laws.Star.Written.{length-written, written_below, written_behind, written-more, written_none, written_one}
-use Rattle.repair.specs.declared.improve.partners.Run.{Run}
+use Rattle.repair.specs.declared.layout.Run.{Run}
 use Rattle.repair.specs.Mesh.{Mesh}
 use Rattle.repair.specs.Improve.{partner, partners, pair_off}
 use Rattle.repair.specs.inside.Layout.{flags_at, pairs_at, pairs_of, pairs_in, Same}
@@ -175,7 +175,7 @@ module _ {o : Options} {m : Mesh} {x : Index} {w₀ : List ℕ} {f g : Run} (F :
       row : v ≡ word_at w₀ (7 * i + 6)
       row = e ∙ before (7 * i + 6) (omega (arith, F.inside))
 
-      pub pairing-vertex : v < x.vertices
+      pairing-vertex : v < x.vertices
       pairing-vertex = subst (λ (u : ℕ). u < x.vertices) (sym row) (walk-vertex q.walk h)
 
       pub pairing-room : pairs_at x + 2 * k + 2 ≤ length w

@@ -32,7 +32,7 @@ use Rattle.mesh.proofs.Laws.NumbersFrom.{numbers-mem, numbers-below}
 use Rattle.mesh.proofs.Laws.Manifold.Fill.{shape-numbered}
 use Rattle.mesh.proofs.Laws.Manifold.RowRuns.{run-turn, sorted-runs}
 use Rattle.mesh.proofs.Laws.Group.Runs.{run-of-vertex}
-use Rattle.repair.specs.declared.improve.partners.Run.{Run}
+use Rattle.repair.specs.declared.layout.Run.{Run}
 use Rattle.repair.specs.inside.improve.Partners.{Ranked, members, members_of, IsGroup}
 use Rattle.repair.proofs.Laws.Improve.Single.{ranks-refl}
 use Rattle.repair.proofs.Laws.Improve.Edges.{every-keep}

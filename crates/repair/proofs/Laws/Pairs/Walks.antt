@@ -17,7 +17,7 @@ use Rattle.mesh.specs.Words.{word_at}
 use Rattle.mesh.specs.Complex.{mem, keep}
 use Rattle.mesh.specs.Tests.{every}
 use Rattle.mesh.proofs.Laws.Complex.Sets.{split, and-fst, and-snd}
-use Rattle.repair.specs.declared.improve.partners.Run.{Run}
+use Rattle.repair.specs.declared.layout.Run.{Run}
 use Rattle.repair.specs.Mesh.{Mesh}
 use Rattle.repair.specs.Improve.{cap_of, partner}
 use Rattle.repair.specs.inside.Layout.{pairs_of}

@@ -11,10 +11,10 @@ use Rattle.std.specs.List.{swap}
 use Rattle.geometry.specs.declared.point.Point.{Point}
 use Rattle.geometry.specs.Float.{◌+₆₄◌, ◌*₆₄◌, total}
 use Rattle.mesh.proofs.Laws.Parts.{get_d_any}
-use Rattle.repair.specs.declared.project.field_rows.Row as row
+use Rattle.repair.specs.declared.project.rows.Row as row
 use Rattle.repair.specs.Project.{entry, smaller_size, pivot, exchanged, products}
-use Rattle.repair.specs.inside.project.Solve.{row_of, rows_of, Shaped, window, scaled_on, displacement}
-use Rattle.repair.proofs.Laws.Project.Elimination.{pivot-turn, cleared_at, cleared_from, clear-turn, clear-end}
+use Rattle.repair.specs.inside.project.Solve.{row_of, rows_of, Shaped, window, cleared_at, scaled_on, displacement}
+use Rattle.repair.proofs.Laws.Project.Elimination.{pivot-turn, cleared_from, clear-turn, clear-end}
 use Rattle.repair.proofs.Laws.Project.Window.{window-long, window-row, window-entry, window-set, window-exchanged, shaped-exchanged, pivoted}
 use Rattle.repair.proofs.Laws.Project.Rows.{rows_long}
 use Rattle.repair.proofs.Laws.Project.Displacement.{summed, summed-all, summed_turn, summed-end}

@@ -5,12 +5,12 @@ use mathlib.Core.Bool.{cond}
 use mathlib.Core.List.{List, [], ◌∷◌, ◌++◌, append-nil}
 use native.Mathlib.Numerals.{add-one}
 use native.Mathlib.Omega.{arith}
-use lib.Dec.{eqb}
 use lib.Ieee.{Float}
 use lib.ListN.{length, get_or, take, drop, set, drop_of_length-le}
 use lib.Seq.{drop-cons, take_all, take-set-lt, get_or-take, length-take-le}
-use Rattle.geometry.specs.Float.{◌-₆₄◌, ◌*₆₄◌, ◌/₆₄◌, zero64}
+use Rattle.geometry.specs.Float.{◌-₆₄◌, ◌*₆₄◌, ◌/₆₄◌}
 use Rattle.repair.specs.Project.{entry, smaller_size, pivot, divide_from, less_from, cleared}
+use Rattle.repair.specs.inside.project.Solve.{cleared_at}
 use Rattle.repair.proofs.Laws.Project.Lists.{changed-front, changed-rest}
 
 -- ---- the columns of one row
@@ -79,10 +79,6 @@ pivot-turn m k best i n h = let e : n - i ≡ suc (n - (i + 1)) = omega arith in
 pub pivot-end : (m : List (List Float)) (k best i n : ℕ) → n ≤ i → pivot m k best i (n - i) ≡ best
 unfolding pivot
 pivot-end m k best i n h = let e : n - i ≡ 0 = omega arith in rw e
-
--- the row i without column k
-abbrev pub cleared_at : ℕ → ℕ → List Float → List Float → List Float
-cleared_at k i row r = cond (eqb i k) r (less_from k (get_or r k zero64) r row)
 
 module _ (k : ℕ) (row : List Float) where
   -- the rows up to i as they are, the others cleared

@@ -7,16 +7,12 @@ use native.Mathlib.Numerals.{add-one}
 use native.Mathlib.Omega.{arith}
 use lib.ListN.{length, get_or, take, drop, set, drop_of_length-le}
 use lib.Seq.{drop-cons, take-suc, take-suc-set, drop-set-lt}
-use Rattle.std.specs.List.{list_all, list_any}
+use Rattle.std.specs.List.{list_any}
 use Rattle.mesh.specs.Tests.{every, any}
 
 -- ---- tests of all elements
 
--- the library's tests of a list are those of the definitions
-pub all-every : {A : Type 0} (p : A → Bool) (xs : List A) → list_all p xs ≡ every p xs
-all-every p [] = refl
-all-every p (x ∷ xs) = ap (λ (b : Bool). p x && b) (all-every p xs)
-
+-- the library's test of a list is that of the definitions
 pub any-any : {A : Type 0} (p : A → Bool) (xs : List A) → list_any p xs ≡ any p xs
 any-any p [] = refl
 any-any p (x ∷ xs) = ap (λ (b : Bool). p x || b) (any-any p xs)

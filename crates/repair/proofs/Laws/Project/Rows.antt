@@ -2,7 +2,7 @@
 use mathlib.Core.Path.{◌≡◌}
 use mathlib.Core.List.{List}
 use lib.ListN.{length, length-map}
-use Rattle.repair.specs.declared.project.field_rows.Row.{Row}
+use Rattle.repair.specs.declared.project.rows.Row.{Row}
 use Rattle.repair.specs.inside.project.Solve.{row_of, rows_of}
 
 -- as many as the code's rows

@@ -1,43 +1,21 @@
 -- A step of `project_candidate` test by test, and the steps one after the other. Assumes nothing.
 use Prim.Native.Nat.{ℕ, zero, suc, ◌+◌, ◌-◌, ◌≤◌, ◌<◌}
 use mathlib.Core.Path.{◌≡◌, refl, sym, ap, ◌∙◌}
-use mathlib.Core.Bool.{Bool, true, false, not, cond}
+use mathlib.Core.Bool.{Bool, true, false}
 use mathlib.Core.List.{List, map}
 use native.Mathlib.Omega.{arith}
 use lib.Ieee.{Float, eq, lt}
 use lib.ListN.{length}
-use borrow.Author.Tests.{not-true, not-false}
 use Rattle.geometry.specs.declared.bounds.Bounds.{Bounds}
 use Rattle.geometry.specs.declared.point.Point.{Point}
 use Rattle.geometry.specs.declared.field.Field.{Field}
 use Rattle.geometry.specs.Float.{◌*₆₄◌, zero64, absolute}
 use Rattle.geometry.specs.Literals.{e_12}
-use Rattle.geometry.specs.Point.{difference}
 use Rattle.geometry.specs.Field.{value}
 use Rattle.mesh.specs.Tests.{every}
 use Rattle.repair.specs.Project.{Projected}
 use Rattle.std.specs.Prelude.{Some, None}
-use Rattle.repair.specs.Project.{Locked, locked_of, held, finite_point, extent, Row, usable, normalised, freed, matrix, solved, Step, ended, onward, onward_from, step, steps}
-use Rattle.repair.specs.inside.project.Solve.{outcome, displacement}
-
--- ---- the point moved
-
-module _ (b : Bounds) (o : Point) (fs : List Field) (p : Point) (rs : List Row) (n : ℕ) (w w₁ : List (List Float)) (found : Bool) (long : length rs ≡ n) (made : w ≡ matrix rs)
-    (ends : outcome found w₁ ≡ solved 0 n w) where
-  answer : onward_from b o fs p rs (outcome found w₁) ≡ onward_from b o fs p rs (solved 0 (length rs) (matrix rs))
-  answer = ap (onward_from b o fs p rs) (ends ∙ (λ i. solved 0 (sym long i) (made i)))
-
-  -- there is no solution
-  pub onward-none : not found ≡ true → ended None ≡ onward_from b o fs p rs (solved 0 (length rs) (matrix rs))
-  onward-none f = ap (λ (t : Bool). onward_from b o fs p rs (outcome t w₁)) (sym (not-true found f)) ∙ answer
-
-  -- there is one
-  pub onward-some : not found ≡ false → {l : Locked} {d e q : Point} → l ≡ locked_of b o → d ≡ displacement rs w₁ → e ≡ difference p d → q ≡ held l p e
-      → {t : Bool} → t ≡ finite_point q → cond t (onward q) (ended None) ≡ onward_from b o fs p rs (solved 0 (length rs) (matrix rs))
-  onward-some f {l} {d} {e} {q} lk ds es qs {t} ts =
-      ap (λ (z : Bool). cond z (onward q) (ended None)) ts
-      ∙ ap (λ (z : Point). cond (finite_point z) (onward z) (ended None)) (qs ∙ (λ i. held (lk i) p ((es ∙ ap (difference p) ds) i)))
-      ∙ ap (λ (z : Bool). onward_from b o fs p rs (outcome z w₁)) (sym (not-false found f)) ∙ answer
+use Rattle.repair.specs.Project.{Locked, locked_of, extent, Row, usable, normalised, freed, matrix, solved, Step, ended, onward, onward_from, step, steps}
 
 -- ---- a step
 

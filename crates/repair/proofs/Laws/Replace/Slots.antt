@@ -11,7 +11,7 @@ use Rattle.mesh.specs.declared.element.Tet.{Tet}
 use Rattle.mesh.specs.Complex.{keep}
 use Rattle.mesh.specs.Tests.{every, nodup, under}
 use Rattle.mesh.specs.Feature.{onto}
-use Rattle.mesh.specs.Element.{pair, tet, vertices_of}
+use Rattle.mesh.specs.Element.{pair, vertices_of}
 use Rattle.mesh.specs.Intake.{well_numbered}
 use Rattle.mesh.specs.inside.List.{gone}
 use Rattle.mesh.specs.inside.Star.{gone_word, gone_tet}
@@ -201,8 +201,7 @@ unfolding slot_after
 after_both a b t h g = sym (ap (λ q. cond (q && has b t) gone_tet (image_of (onto a b) t)) h ∙ ap (λ q. cond q gone_tet (image_of (onto a b) t)) g)
 
 -- in a slot without b a becomes b
-pub after_one : (a b : ℕ) (t : Tet) → has a t ≡ true → has b t ≡ false → (p q r s : ℕ) → p ≡ onto a b t.a → q ≡ onto a b t.b → r ≡ onto a b t.c
-    → s ≡ onto a b t.d → tet p q r s ≡ slot_after a b t
+pub after_one : (a b : ℕ) (t : Tet) → has a t ≡ true → has b t ≡ false → image_of (onto a b) t ≡ slot_after a b t
 unfolding slot_after
-after_one a b t h g p q r s e₁ e₂ e₃ e₄ =
-    rw (e₁, e₂, e₃, e₄) (sym (ap (λ q. cond (q && has b t) gone_tet (image_of (onto a b) t)) h ∙ ap (λ q. cond q gone_tet (image_of (onto a b) t)) g))
+after_one a b t h g =
+    sym (ap (λ q. cond (q && has b t) gone_tet (image_of (onto a b) t)) h ∙ ap (λ q. cond q gone_tet (image_of (onto a b) t)) g)

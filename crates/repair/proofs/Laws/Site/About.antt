@@ -24,7 +24,7 @@ use Rattle.mesh.proofs.Laws.Star.Numbers.{pass-count, pass-elements, pass_below}
 use Rattle.mesh.proofs.Laws.Star.Calls.{Answered}
 use Rattle.mesh.proofs.Laws.About.Members.{entries-few}
 use Rattle.mesh.proofs.Laws.About.Answer.{about-count, about-answered}
-use Rattle.repair.specs.declared.smooth.trial_scores.Site.{Site}
+use Rattle.repair.specs.declared.smooth.site.Site.{Site}
 use Rattle.repair.specs.Mesh.{has}
 use Rattle.mesh.specs.Tests.{any}
 use Rattle.repair.specs.Smooth.{about_group}
@@ -102,16 +102,22 @@ module _ (x : Index) (w : List ℕ) (i k : ℕ) (r : Ready x w) (g : Rows x w i 
       ∙ keep_same (has_one vs) (λ t. any (λ v. has v t) (members w i k)) ts
       (λ t. ap (any (λ v. has v t)) vs-is) ∙ ap (λ t. about_group t (members w i k)) (sym z)
 
-  pub listed-is : (w' : List ℕ) (n : ℕ) (s : Site) → n ≡ length (about_list x w i k 7) → w' ≡ about_in x w i k 7
-      → s ≡ record { vertices = x.vertices; group = i; count = k; area = x.area; about = n } → Listed x i k w w' s
-  listed-is w' n s e f q =
+  pub listed-few : (n : ℕ) → n ≡ length (about_list x w i k 7) → n ≤ x.room
+  listed-few n e = let m = e ∙ count in omega (arith, m, star-few)
+
+  pub listed-is : (w' : List ℕ) (s : Site) → s.about ≡ length (about_list x w i k 7) → w' ≡ about_in x w i k 7
+      → s.vertices ≡ x.vertices → s.group ≡ i → s.count ≡ k → s.area ≡ x.area → Listed x i k w w' s
+  listed-is w' s e f sv sg sc sa =
       let A : Answered w w' x.area (star_all vs ts) = subst (λ u. Answered w u x.area (star_all vs ts)) (sym f) answered in
-      let m : s.about ≡ length (star_all vs ts) = ap (λ (t : Site). t.about) q ∙ e ∙ count in
+      let m : s.about ≡ length (star_all vs ts) = e ∙ count in
       let a = r.room.area in let b = r.room.lengths in let c = r.room.heads in let d = r.room.nexts in let h = r.room.slots in let l = r.long in
       let o : x.area + s.about ≤ length w' = omega (arith, a, b, c, d, h, l, m, star-few, A.long) in
       record {
         same = record { long = A.long; before = A.below };
-        site = q ∙ ap (λ (j : ℕ). record { vertices = x.vertices; group = i; count = k; area = x.area; about = j }) (sym (ap (λ (t : Site). t.about) q));
+        vertices = sv;
+        group = sg;
+        count = sc;
+        area = sa;
         few = omega (arith, m, star-few);
         found = λ els z. about-map els w' x.area s.about o ∙ ap (λ j. map (tet_at els) (take j (drop x.area w'))) m ∙ ap (map (tet_at els)) A.list ∙ star-about els z;
       }

@@ -17,7 +17,7 @@ use Rattle.mesh.specs.Words.{word_at, point_at, zero_point, points_of}
 use Rattle.mesh.specs.Complex.{mem, Nodup}
 use Rattle.mesh.proofs.Laws.Complex.Sets.{split, mem-cases, clash}
 use Rattle.mesh.proofs.Laws.Intake.Reads.{length-points}
-use Rattle.repair.specs.declared.smooth.trial_scores.Site.{Site}
+use Rattle.repair.specs.declared.smooth.site.Site.{Site}
 use Rattle.repair.specs.Smooth.{kept_on, placed, move_to}
 use Rattle.repair.specs.inside.smooth.Site.{members, trial_points, Put, Placed, new_parameters, new_point}
 use Rattle.repair.proofs.Laws.Smooth.Placed.{length-placed, placed-other}

@@ -5,6 +5,8 @@ use Prim.Native.Nat.{ℕ, ◌+◌, ◌*◌, ◌≤◌, ◌<◌}
 use native.Mathlib.Omega.{arith}
 use lib.Ieee.{Float}
 use lib.ListN.{length, take, drop}
+use Rattle.std.proofs.lemmas.List.{length-take}
+use Rattle.std.proofs.Common.{length-drop}
 use Rattle.geometry.specs.declared.point.Point.{Point}
 use Rattle.geometry.specs.declared.bounds.Options.{Options}
 use Rattle.geometry.specs.Bounds.{canonical}
@@ -70,6 +72,15 @@ module _ (o : Options) (x : Index) (P : List Float) (v k : ℕ) (w w' : List ℕ
       let m : n ≡ length (neighbours_of v (slots_in x x.room w)) = a ∙ long-is in
       let f = r.room.few in
       omega (arith, m, ap length count-is, near-most x.vertices (slots_in x x.room w) v, f)
+
+  -- and their list ends inside the work
+  pub near-inside : (n : ℕ) → n ≡ length (neighbour_list (area-at x (x.area + k)) w v) → x.area + k + n ≤ length w'
+  unfolding ts
+  near-inside n a =
+      let m : n ≡ length (neighbours_of v (slots_in x x.room w)) = a ∙ long-is in
+      let l = ap (λ j. length (take j (drop (x.area + k) w'))) m ∙ ap length answered.list in
+      let i = area-inside x k w r few in
+      omega (arith, m, l, i, length-take n (drop (x.area + k) w'), length-drop (x.area + k) w', answered.long)
 
   pub started-is : (s : Start) (n : ℕ) (q : Point) → n ≡ length (neighbour_list (area-at x (x.area + k)) w v) → q ≡ point_at (points_of x.vertices P) v → s.original ≡ q → s.origin ≡ canonical q o → s.near ≡ n
       → s.mean ≡ mean (map (point_at (points_of x.vertices P)) (take n (drop (x.area + k) w'))) → Started o x P v k w w' s

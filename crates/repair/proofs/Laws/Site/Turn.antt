@@ -3,7 +3,7 @@ use mathlib.Core.Path.{◌≡◌, refl, sym, ap, ap₂, subst, subst₂, ◌∙�
 use mathlib.Core.Bool.{true, false, cond}
 use mathlib.Core.List.{List, ◌∷◌, ◌++◌, map}
 use mathlib.Core.Option.{Option}
-use Prim.Native.Nat.{ℕ, zero, suc, ◌+◌, ◌-◌, ◌<◌}
+use Prim.Native.Nat.{ℕ, zero, suc, ◌+◌, ◌-◌, ◌*◌, ◌<◌, ◌≤◌}
 use native.Mathlib.Omega.{arith}
 use borrow.Author.Tests.{ltb-true}
 use lib.Dec.{ltb}
@@ -24,14 +24,14 @@ use Rattle.mesh.specs.Element.{tets}
 use Rattle.mesh.specs.Measure.{measure, lowest_of}
 use Rattle.mesh.proofs.Laws.Complex.Sets.{and-fst}
 use Rattle.mesh.proofs.Laws.Intake.Reads.{length-points}
-use Rattle.repair.specs.declared.smooth.trial_scores.Site.{Site}
+use Rattle.repair.specs.declared.smooth.site.Site.{Site}
 use Rattle.repair.specs.declared.smooth.choose.Best as Found
 use Rattle.repair.specs.declared.smooth.choose.Start.{Start}
 use Rattle.repair.specs.Smooth.{State, Best, chosen, neighbours, mean_candidates, step_candidates, move_to, best_of, about_group, best_for, taken, smooth_group}
 use Rattle.repair.specs.inside.Layout.{slots_in}
 use Rattle.repair.specs.inside.smooth.Candidates.{plain}
 use Rattle.std.specs.Prelude.{Option as Maybe, Some, None}
-use Rattle.repair.specs.inside.smooth.Site.{members, about, InRange, state_of, Placed, new_parameters, new_point, Turned, best_in, none_yet, start_list, SameTo, Ready, Slots, Rows, Listed, Sited, Started, mesh_for}
+use Rattle.repair.specs.inside.smooth.Site.{members, about, state_of, Placed, new_parameters, new_point, Turned, best_in, none_yet, start_list, SameTo, Ready, Slots, Rows, Listed, Sited, Started, mesh_for}
 use Rattle.repair.proofs.Laws.Site.Best.{start-candidates, best-moved}
 use Rattle.repair.proofs.Laws.Site.Work.{same-less, ready-kept, slots_kept, about-kept, group-same, group-kept}
 
@@ -56,14 +56,11 @@ length-members w i zero = refl
 length-members w i (suc k) = ap suc (length-members w (i + 7) k)
 
 -- the places of what is listed are in range
-pub listed-range : (x : Index) (w w' : List ℕ) (i k : ℕ) (s : Site) → Ready x w → Rows x w i k → Listed x i k w w' s → InRange s
-listed-range x w w' i k s r g l =
+pub listed-range : (x : Index) (w : List ℕ) (i k n : ℕ) → Ready x w → Rows x w i k → n ≤ x.room → (i + 7 * k ≤ 4294967296) × (x.area + n ≤ 4294967296)
+listed-range x w i k n r g m =
     let a = r.room.area in let b = r.room.lengths in let c = r.room.heads in let d = r.room.nexts in let f = r.room.slots in
-    let h = r.room.few in let e = r.room.elements in let m = g.inside in let n = l.few in
-    let p : s.group ≡ i = ap (λ t. t.group) l.site in
-    let q : s.count ≡ k = ap (λ t. t.count) l.site in
-    let u : s.area ≡ x.area = ap (λ t. t.area) l.site in
-    record { rows = omega (arith, h, m, p, q); list = omega (arith, a, b, c, d, f, h, e, n, u) }
+    let h = r.room.few in let e = r.room.elements in let t = g.inside in
+    (omega (arith, h, t), omega (arith, a, b, c, d, f, h, e, m))
 
 -- ---- the best candidate
 
@@ -197,25 +194,24 @@ module _ (x : Index) (els : List ℕ) (i k : ℕ) (w w₁ : List ℕ) (s : Site)
   pub lowest₁ : (Q : List Float) (low : Float) → low ≡ lowest_of (measure (points_of s.vertices Q)) (about els w₁ s.area s.about)
       → low ≡ lowest_of (measure (points_of x.vertices Q)) (about_group (tets x.room els) (members w₁ i k))
   lowest₁ Q low e =
-      e ∙ ap₂ (λ n t. lowest_of (measure (points_of n Q)) t) (ap (λ (t : Site). t.vertices) l.site)
-      (ap (λ (t : Site). about els w₁ t.area s.about) l.site ∙ l.found els z
+      e ∙ ap₂ (λ n t. lowest_of (measure (points_of n Q)) t) l.vertices
+      (ap (λ (a : ℕ). about els w₁ a s.about) l.area ∙ l.found els z
       ∙ ap (about_group (tets x.room els)) (sym (group-same x w w₁ r l.same i k g)))
 
   -- the site is that of the group
   pub sited₁ : Sited x els w₁ s
   sited₁ = record {
-    vertices = ap (λ (t : Site). t.vertices) l.site;
-    area = ap (λ (t : Site). t.area) l.site;
+    vertices = l.vertices;
+    area = l.area;
     few = l.few;
-    range = listed-range x w w₁ i k s r g l;
-    rows = subst (λ (t : Site). Rows x w₁ t.group t.count) (sym l.site) rows₁;
-    found = ap (λ (t : Site). about els w₁ t.area s.about) l.site ∙ l.found els z
+    rows = subst₂ (λ a n. Rows x w₁ a n) (sym l.group) (sym l.count) rows₁;
+    found = ap (λ (a : ℕ). about els w₁ a s.about) l.area ∙ l.found els z
         ∙ ap (about_group (tets x.room els)) (sym (group-same x w w₁ r l.same i k g))
-        ∙ sym (ap (λ (t : Site). about_group (tets x.room els) (members w₁ t.group t.count)) l.site);
+        ∙ sym (ap₂ (λ (a n : ℕ). about_group (tets x.room els) (members w₁ a n)) l.group l.count);
   }
 
   pub best₁ : (f : ℕ → List ℕ → Best) (b : Best) → b ≡ f (word_at w₁ s.group) (members w₁ s.group s.count) → b ≡ f (word_at w₁ i) (members w₁ i k)
-  best₁ f b e = e ∙ ap (λ (t : Site). f (word_at w₁ t.group) (members w₁ t.group t.count)) l.site
+  best₁ f b e = e ∙ ap₂ (λ (a n : ℕ). f (word_at w₁ a) (members w₁ a n)) l.group l.count
 
   -- the turn is that of the group in w
   pub turned₁ : (f : List ℕ → State) (P Q P' Q' : List Float) (m : ℕ) → Turned x.vertices (f (members w₁ i k)) P Q P' Q' m → Turned x.vertices (f (members w i k)) P Q P' Q' m
@@ -224,13 +220,13 @@ module _ (x : Index) (els : List ℕ) (i k : ℕ) (w w₁ : List ℕ) (s : Site)
   -- the vertices are placed as the site says
   module _ (w₂ : List ℕ) (e : SameTo x.area w₁ w₂) where
     site-members : members w₂ s.group s.count ≡ members w₁ i k
-    site-members = ap (λ (t : Site). members w₂ t.group t.count) l.site ∙ group-same x w₁ w₂ ready₁ e i k rows₁
+    site-members = ap₂ (members w₂) l.group l.count ∙ group-same x w₁ w₂ ready₁ e i k rows₁
 
     pub site-once : Nodup (members w₂ s.group s.count)
     site-once = subst (λ h. Nodup h) (sym site-members) rows₁.once
 
     pub site-vertices : s.vertices ≡ x.vertices
-    site-vertices = ap (λ (t : Site). t.vertices) l.site
+    site-vertices = l.vertices
 
     pub site-placed : (new : ℕ → ℕ → Point) (S T : List Float) → Placed s.vertices (new s.vertices) (members w₂ s.group s.count) S T
         → Placed x.vertices (new x.vertices) (members w₁ i k) S T

@@ -8,4 +8,4 @@ use Rattle.repair.proofs.project.project.Goals as goal
 
 pub returns : goal.returns
 unfolding project of_bits
-returns c = c.steps.ensures c.args.b c.args.origin c.locked_at-l.ensures (ap (λ x. e_12 *₆₄ x) c.extent-tolerance.ensures) ∙ (λ i. steps c.args.b c.args.origin c.args.active.now 12 (onward ((c.held.ensures ∙ ap (λ (l : Locked). held l c.args.origin c.args.candidate) c.locked_at-l.ensures) i)))
+returns c = c.steps.ensures c.args.b c.args.origin c.at-l.ensures (ap (λ x. e_12 *₆₄ x) c.extent-tolerance.ensures) ∙ (λ i. steps c.args.b c.args.origin c.args.active.list.now 12 (onward ((c.held.ensures ∙ ap (λ (l : Locked). held l c.args.origin c.args.candidate) c.at-l.ensures) i)))

@@ -9,4 +9,4 @@ use Rattle.repair.specs.inside.project.Solve.{locks}
 use Rattle.repair.proofs.project.steps.Given as goal
 
 abbrev pub invariant-loop : goal.invariant-loop
-invariant-loop l = (b : Bounds) (o : Point) → locks l.l ≡ locked_of b o → l.tolerance ≡ e_12 *₆₄ extent b → steps b o l.active (12 - l.counter) (onward l.at) ≡ steps b o l.active 12 (onward l.initial.at)
+invariant-loop l = (b : Bounds) (o : Point) → locks l.l ≡ locked_of b o → l.tolerance ≡ e_12 *₆₄ extent b → steps b o l.active.list.now (12 - l.counter) (onward l.at) ≡ steps b o l.active.list.now 12 (onward l.initial.at)

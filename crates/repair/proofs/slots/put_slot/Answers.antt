@@ -10,4 +10,4 @@ unfolding Rattle.repair.specs.inside.improve.Collapse.put_slot
 returns c =
     let a = c.args in
     let p = a.x.slots + 4 * a.e in
-    c.put_word-4.ensures ∙ ap (λ (w : List ℕ). set w (p + 3) a.t.d) (c.put_word-3.ensures ∙ ap (λ (w : List ℕ). set w (p + 2) a.t.c) (c.put_word-2.ensures ∙ ap (λ (w : List ℕ). set w (p + 1) a.t.b) c.put_word.ensures))
+    c.put-4.ensures ∙ ap (λ (w : List ℕ). set w (p + 3) a.t.d) (c.put-3.ensures ∙ ap (λ (w : List ℕ). set w (p + 2) a.t.c) (c.put-2.ensures ∙ ap (λ (w : List ℕ). set w (p + 1) a.t.b) c.put.ensures))

@@ -1,6 +1,7 @@
 -- Where `flip` keeps what it knows, in the work slice w for n elements (drawn in src/flip/layout.rt), and when w says the same as a state
 -- of specs/Flip.antt. For the contracts of private functions; definitions only.
 use Rattle.std.specs.Prelude.{ℕ, ◌+◌, ◌*◌, ◌≤◌, ◌<◌, ◌≡◌, true, cond, List, map, length, take, set}
+use Rattle.std.specs.Prelude as std
 use Rattle.std.proofs.Math.Option.{Option, none, some}
 use Rattle.mesh.specs.declared.element.Triple.{Triple}
 use Rattle.mesh.specs.declared.element.Tet.{Tet}
@@ -10,6 +11,7 @@ use Rattle.mesh.specs.Tests.{every}
 use Rattle.mesh.specs.Element.{triple}
 use Rattle.mesh.specs.inside.List.{gone}
 use Rattle.mesh.specs.inside.Star.{Complete}
+use Rattle.repair.specs.declared.flip.inputs.Inputs.{Inputs}
 use Rattle.repair.specs.Flip.{State, live}
 use Rattle.repair.specs.inside.Layout.{slots_in, slot_ok}
 
@@ -35,11 +37,19 @@ pub record FlipRoom (x : Index) (n m : ℕ) : Type 0 where
   pub area : x.area ≡ x.lengths + x.vertices + 76 * n
   pub long : 256 * n + 32 * x.vertices + 1024 ≤ m
 
+-- the same for what `flip` reads and its work slice
+abbrev pub RoomFor : Inputs → List ℕ → Type 0
+RoomFor i w = FlipRoom i.index i.elements (length w)
+
 -- ---- what they hold
 
 -- what is in a slot: nothing where it is gone
 unfoldable pub slot_of : Tet → Option Tet
 slot_of t = cond (gone t) none (some t)
+
+-- the same for the code
+abbrev pub live_of : Tet → std.Option Tet
+live_of t = cond (gone t) std.None (std.Some t)
 
 -- the first c slots of the work slice stand for the state s
 pub record SlotsStand (x : Index) (n c : ℕ) (w : List ℕ) (s : State) : Type 0 where

@@ -5,24 +5,28 @@ use Rattle.geometry.specs.declared.point.Point.{Point}
 use Rattle.geometry.specs.declared.bounds.Options.{Options}
 use Rattle.mesh.specs.declared.element.Pair.{Pair}
 use Rattle.mesh.specs.declared.star.Index.{Index}
-use Rattle.mesh.specs.Words.{word_at, points_of, flat}
+use Rattle.mesh.specs.Words.{word_at, points_in, flat}
 use Rattle.mesh.specs.Sort.{sort}
 use Rattle.mesh.specs.inside.Rows.{le_row}
 use Rattle.mesh.specs.Complex.{mem, keep}
+use Rattle.mesh.specs.Feature.{stratum_of}
 use Rattle.mesh.specs.Tests.{every}
 use Rattle.mesh.specs.Element.{pair}
 use Rattle.mesh.specs.inside.Group.{group_rows}
 use Rattle.repair.specs.declared.improve.inputs.Inputs.{Inputs}
-use Rattle.repair.specs.declared.improve.partners.Run.{Run}
+use Rattle.repair.specs.declared.layout.Run.{Run}
 use Rattle.repair.specs.Mesh.{Mesh}
 use Rattle.repair.specs.Improve.{partners, pair_off}
 use Rattle.repair.specs.inside.Layout.{flags_at, pairs_at, pairs_in, Same}
 
 -- ---- groups
 
--- the vertices read, by their parameters
+-- the vertices read, by their parameters, and their strata
 abbrev pub vertices_of : Inputs → List Point
-vertices_of i = points_of i.index.vertices i.parameters.now
+vertices_of i = points_in i.parameters
+
+abbrev pub strata_of : Inputs → ℕ → ℕ
+strata_of i = stratum_of i.masks.now (vertices_of i) i.options.bounds
 
 -- the sorted rows of the vertices with these parameters, and room for the pairs
 pub record Ranked (o : Options) (ps : List Point) (x : Index) (w : List ℕ) : Type 0 where

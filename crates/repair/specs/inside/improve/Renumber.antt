@@ -1,6 +1,6 @@
 -- The end of `improve` on buffers: what it asks of its area and its buffers, what it answers, and what its functions leave (drawn in
 -- src/improve/renumber.rt). For the contracts of private functions; definitions only.
-use Rattle.std.specs.Prelude.{ℕ, ◌+◌, ◌-◌, ◌*◌, ◌≤◌, ◌<◌, ◌≡◌, true, cond, List, map, eqb, ltb, Float, length, take, drop, set}
+use Rattle.std.specs.Prelude.{ℕ, zero, suc, ◌+◌, ◌-◌, ◌*◌, ◌≤◌, ◌<◌, ◌≡◌, true, cond, List, [], ◌∷◌, ◌++◌, map, eqb, ltb, Float, length, take, drop, set, slice_index_or}
 use Rattle.mesh.specs.declared.element.Tet.{Tet}
 use Rattle.mesh.specs.declared.intake.Sizes.{Sizes}
 use Rattle.mesh.specs.Surface.{Outcome}
@@ -12,6 +12,7 @@ use Rattle.mesh.specs.Boundary.{boundary_number, boundary_of}
 use Rattle.mesh.specs.Surface.{answer}
 use Rattle.mesh.specs.Manifold.{nonmanifold, nonmanifold_in}
 use Rattle.mesh.specs.Intake.{well_numbered}
+use Rattle.repair.specs.declared.improve.buffers.Buffers.{Buffers}
 use Rattle.repair.specs.Step.{Answer}
 use Rattle.repair.specs.Mesh.{made, refused}
 use Rattle.repair.specs.Improve.{image_of, first_uses, place_of, renumbered, end_number}
@@ -43,6 +44,10 @@ pub record EndBuffers (z : Sizes) (k p q m e t f : ℕ) : Type 0 where
   pub elements : 8 * z.elements ≤ e
   pub surface : 12 * z.elements ≤ t
   pub floats : 16 * z.vertices ≤ f
+
+-- the same of such buffers
+abbrev pub EndFits : Sizes → ℕ → Buffers → ℕ → Type 0
+EndFits z k b f = EndBuffers z k (length b.parameters.now) (length b.points.now) (length b.masks.now) (length b.elements.now) (length b.surface.now) f
 
 -- ---- numbering by first use
 
@@ -114,12 +119,32 @@ pub record Ended (k nv : ℕ) (s₀ s : List ℕ) (r : Outcome) : Type 0 where
 abbrev pub listed : ℕ → ℕ → List ℕ → List ℕ
 listed u n s = take n (drop u s)
 
+-- the n values of s from k on, z where there is none
+abbrev pub values_from : {A : Type 0} → A → List A → ℕ → ℕ → List A
+values_from z s k zero = []
+values_from z s k (suc n) = values_from z s k n ++ (slice_index_or s (k + n) z ∷ [])
+
+-- the w values of each of these vertices
+abbrev pub values_of : {A : Type 0} → A → List A → ℕ → List ℕ → List A
+values_of z s w [] = []
+values_of z s w (v ∷ vs) = values_from z s (w * v) w ++ values_of z s w vs
+
 -- the points of these vertices over the first, and their masks
 abbrev pub moved_points : List ℕ → List Float → List Float
 moved_points vs s = over (floats_of (map (point_in s) vs)) s
 
 abbrev pub moved_masks : List ℕ → List ℕ → List ℕ
 moved_masks vs s = over (map (word_at s) vs) s
+
+-- the mesh of the sizes z in the buffers
+abbrev pub state_in : Sizes → Buffers → State
+state_in z b = record { parameters = b.parameters.now; points = b.points.now; masks = b.masks.now; elements = b.elements.now; surface = b.surface.now; sizes = z }
+
+-- the buffers are the same ones, whatever they hold
+abbrev pub SameBuffers : Buffers → Buffers → Type 0
+SameBuffers b c =
+    (c.parameters.ghost_name ≡ b.parameters.ghost_name) × (c.points.ghost_name ≡ b.points.ghost_name) × (c.masks.ghost_name ≡ b.masks.ghost_name)
+    × (c.elements.ghost_name ≡ b.elements.ghost_name) × (c.surface.ghost_name ≡ b.surface.ghost_name)
 
 -- the mesh of the sizes z that stands in an area for nv vertices fits there, and into buffers of these lengths
 pub record MeshRoom (z : Sizes) (nv p q m e t a f : ℕ) : Type 0 where
@@ -132,6 +157,10 @@ pub record MeshRoom (z : Sizes) (nv p q m e t a f : ℕ) : Type 0 where
   pub surface : 3 * z.triples ≤ t
   pub area : 112 * z.elements + 3 * nv ≤ a
   pub floats : 3 * z.vertices ≤ f
+
+-- the same of such buffers
+abbrev pub MeshFits : Sizes → ℕ → Buffers → ℕ → ℕ → Type 0
+MeshFits z nv b a f = MeshRoom z nv (length b.parameters.now) (length b.points.now) (length b.masks.now) (length b.elements.now) (length b.surface.now) a f
 
 -- the buffers with the mesh of the sizes z that stands in the area a
 unfoldable pub moved_in : Sizes → ℕ → List ℕ → State → State

@@ -4,6 +4,7 @@ use Rattle.geometry.specs.declared.bounds.Options.{Options}
 use Rattle.mesh.specs.declared.element.Pair.{Pair}
 use Rattle.mesh.specs.declared.star.Index.{Index}
 use Rattle.mesh.specs.Element.{pair}
+use Rattle.mesh.specs.Words.{points_in}
 use Rattle.mesh.specs.Measure.{measure}
 use Rattle.repair.specs.declared.improve.inputs.Inputs.{Inputs}
 use Rattle.repair.specs.Mesh.{Mesh}
@@ -12,13 +13,13 @@ use Rattle.repair.specs.inside.Layout.{Stands, Reads, Ready, Pairs, Same, pairs_
 
 -- the mesh is the one read, the work slice stands for a state of it, or for some state of some such mesh
 abbrev pub ReadsOf : Inputs → Mesh → Type 0
-ReadsOf i m = Reads m i.index.vertices i.parameters.now i.points.now i.masks.now
+ReadsOf i m = Reads m (points_in i.parameters) (points_in i.points) i.masks.now
 
 abbrev pub StandsOf : Inputs → Mesh → List ℕ → State → Type 0
 StandsOf i m w s = Stands i.options m i.index i.index.room w s
 
 abbrev pub ReadyOf : Inputs → List ℕ → Type 0
-ReadyOf i w = Ready i.options i.index i.index.room w i.parameters.now i.points.now i.masks.now
+ReadyOf i w = Ready i.options i.index i.index.room w (points_in i.parameters) (points_in i.points) i.masks.now
 
 -- both vertices of an edge are below nv
 abbrev pub below : ℕ → Pair → Bool

@@ -1,12 +1,12 @@
 -- What the values and arrays of `project_candidate`'s code stand for in specs/Project.antt: the rows of the active fields, the matrix in
 -- the corner of 8 rows of 9, the point of a step. For the contracts of private functions; definitions only.
-use Rattle.std.specs.Prelude.{ℕ, ◌+◌, ◌<◌, ◌≡◌, Bool, true, false, List, [], ◌∷◌, ◌++◌, map, Float, length, get_or, take, Option, Some, None}
+use Rattle.std.specs.Prelude.{ℕ, ◌+◌, ◌<◌, ◌≡◌, cond, eqb, List, [], ◌∷◌, ◌++◌, map, Float, length, get_or, take, Option, Some, None}
 use Rattle.geometry.specs.declared.point.Point.{Point}
-use Rattle.geometry.specs.Float.{◌+₆₄◌, ◌*₆₄◌, total}
+use Rattle.geometry.specs.Float.{◌+₆₄◌, ◌*₆₄◌, zero64, total}
 use Rattle.geometry.specs.Point.{dot}
 use Rattle.repair.specs.declared.project.locked.Locked as locked
-use Rattle.repair.specs.declared.project.field_rows.Row as row
-use Rattle.repair.specs.Project.{Locked, Row, products, Step, ended, onward}
+use Rattle.repair.specs.declared.project.rows.Row as row
+use Rattle.repair.specs.Project.{Locked, Row, products, less_from, Step, ended, onward}
 
 -- the code's directions
 abbrev pub locks : locked.Locked → Locked
@@ -33,10 +33,9 @@ window n m = map (take (n + 1)) (take n m)
 abbrev pub entries : List Row → Row → List Float
 entries rs r = map (λ s. dot r.gradient s.gradient) rs ++ (r.value ∷ [])
 
--- the solved matrix, or none
-abbrev pub outcome : Bool → List (List Float) → Option (List (List Float))
-outcome true m = Some m
-outcome false m = None
+-- row i, which is r, without column k; row k, the pivot's, as it is
+abbrev pub cleared_at : ℕ → ℕ → List Float → List Float → List Float
+cleared_at k i row r = cond (eqb i k) r (less_from k (get_or r k zero64) r row)
 
 -- s with g times t added, per direction
 abbrev pub scaled_on : Point → Point → Float → Point

@@ -3,7 +3,6 @@
 use Rattle.std.specs.Prelude.{ℕ, List, [], ◌∷◌, ◌++◌, map, pos, Float, Option, Some, None}
 use Rattle.std.proofs.Math.Option as Math
 use Rattle.std.proofs.Math.Option.{none, some}
-use Rattle.std.proofs.Common.{Bor}
 use Rattle.std.specs.Float.{binary64}
 use Rattle.std.specs.Float.Ieee.{of_int}
 use Rattle.geometry.specs.declared.point.Point.{Point}
@@ -16,11 +15,6 @@ use Rattle.repair.specs.Smooth.{along, step_candidates}
 abbrev pub plain : {A : Type 0} → Option A → Math.Option A
 plain None = none
 plain (Some a) = some a
-
--- the regions that the code was lent, if any
-abbrev pub regions_in : Option (Bor (List ℕ)) → Math.Option (List ℕ)
-regions_in None = none
-regions_in (Some r) = some r.now
 
 -- how far the first three candidates go towards the mean
 abbrev pub shares : List Float

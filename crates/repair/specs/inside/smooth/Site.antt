@@ -20,7 +20,7 @@ use Rattle.mesh.specs.Measure.{measure, lowest_of}
 use Rattle.std.specs.Float.Ieee.{lt}
 use Rattle.mesh.specs.inside.Intake.{tet_at}
 use Rattle.mesh.specs.inside.Star.{Complete}
-use Rattle.repair.specs.declared.smooth.trial_scores.Site.{Site}
+use Rattle.repair.specs.declared.smooth.site.Site.{Site}
 use Rattle.repair.specs.declared.smooth.choose.Best as Kept
 use Rattle.repair.specs.declared.smooth.choose.Start.{Start}
 use Rattle.repair.specs.Project.{Projected}
@@ -41,11 +41,6 @@ unfoldable pub about : List ℕ → List ℕ → ℕ → ℕ → List Tet
 about els w i zero = []
 about els w i (suc k) = tet_at els (word_at w i) ∷ about els w (i + 1) k
 
--- the places of a site are far from the largest number
-pub record InRange (s : Site) : Type 0 where
-  pub rows : s.group + 7 * s.count ≤ 4294967296
-  pub list : s.area + s.about ≤ 4294967296
-
 -- ---- states
 
 -- the state in the buffers of nv vertices
@@ -55,6 +50,10 @@ state_of nv parameters points moved = record { parameters = points_of nv paramet
 -- the points with the group moved to p
 unfoldable pub trial_points : Options → List Float → List Float → List ℕ → Site → Point → List Point
 trial_points o parameters points w s p = (move_to o (state_of s.vertices parameters points 0) (members w s.group s.count) p).points
+
+-- parameters and points have room for nv vertices
+abbrev pub Fit : ℕ → List Float → List Float → Type 0
+Fit nv parameters points = (3 * nv ≤ length parameters) × (3 * nv ≤ length points)
 
 -- t is s with the point p for the vertex v of nv, and the same behind the vertices
 pub record Put (nv v : ℕ) (p : Point) (s t : List Float) : Type 0 where
@@ -126,6 +125,10 @@ pub record SameTo (a : ℕ) (s t : List ℕ) : Type 0 where
 abbrev pub used_words : ℕ → ℕ → ℕ
 used_words nv n = 14 * nv + 65 * n
 
+-- nv vertices and n elements are within document 01's limits, and m words are enough for them
+abbrev pub Enough : ℕ → ℕ → ℕ → Type 0
+Enough nv n m = (nv ≤ 4096) × (n ≤ 16384) × (used_words nv n ≤ m)
+
 -- the work is laid out as for `improve`, in the words that are used, and the elements in its slots are indexed
 pub record Ready (x : Index) (w : List ℕ) : Type 0 where
   pub room : Room x x.room (256 * x.room + 32 * x.vertices + 1024)
@@ -145,18 +148,20 @@ pub record Rows (x : Index) (w : List ℕ) (i count : ℕ) : Type 0 where
   pub below : under x.vertices (members w i count) ≡ true
 
 -- w' is w with the elements about a group listed
-pub record Listed (x : Index) (i count : ℕ) (w w' : List ℕ) (s : Site) : Type 0 where
+pub record Listed (x : Index) (i k : ℕ) (w w' : List ℕ) (s : Site) : Type 0 where
   pub same : SameTo x.area w w'
-  pub site : s ≡ record { vertices = x.vertices; group = i; count = count; area = x.area; about = s.about }
+  pub vertices : s.vertices ≡ x.vertices
+  pub group : s.group ≡ i
+  pub count : s.count ≡ k
+  pub area : s.area ≡ x.area
   pub few : s.about ≤ x.room
-  pub found : (els : List ℕ) → Slots x els w → about els w' x.area s.about ≡ about_group (tets x.room els) (members w i count)
+  pub found : (els : List ℕ) → Slots x els w → about els w' x.area s.about ≡ about_group (tets x.room els) (members w i k)
 
 -- the site s is that of a group in w, with the elements about it listed at the area's front
 pub record Sited (x : Index) (els w : List ℕ) (s : Site) : Type 0 where
   pub vertices : s.vertices ≡ x.vertices
   pub area : s.area ≡ x.area
   pub few : s.about ≤ x.room
-  pub range : InRange s
   pub rows : Rows x w s.group s.count
   pub found : about els w s.area s.about ≡ about_group (tets x.room els) (members w s.group s.count)
 

@@ -1,15 +1,14 @@
 -- Words written one behind the other. Assumes nothing.
-use Rattle.std.proofs.Common.{◌≡◌, ℕ, zero, suc, ◌+◌, ◌-◌, ◌/◌, ◌%◌, ◌^◌, ◌<◌, cond, ltb, List, [], ◌∷◌, ◌++◌, length, get_or, set, sym, refl, ap, ◌∙◌, subst, append_assoc, add-one, arith, length-append}
+use Rattle.std.proofs.Common.{◌≡◌, ℕ, zero, suc, ◌+◌, ◌-◌, ◌%◌, ◌^◌, ◌<◌, ◌≤◌, List, [], ◌∷◌, ◌++◌, length, take, get_or, sym, refl, ap, ◌∙◌, subst, append_assoc, add-one, arith, length-append, take-suc}
 use lib.ListN.{replicate-append-replicate}
-use lib.Seq.{sets}
-use Rattle.geometry.specs.declared.field.Field.{Field}
-use Rattle.geometry.specs.declared.field.Field.TheVariants.{Level}
-use Rattle.geometry.specs.Float.{zero64}
+use lib.Seq.{sets, sets-eq}
+use borrow.Rule.Slice.PartMut.{put_mid}
+use Rattle.std.specs.Int.{w32, to_le_bytes}
+use Rattle.std.proofs.lemmas.Slice.{put_mid-paste}
 use Rattle.mesh.specs.Words.{zero_words}
-use Rattle.mesh.proofs.Laws.Parts.{get_d_any}
-use Rattle.report.specs.Format.{record_room, field_size}
+use Rattle.report.specs.Format.{record_room}
 use Rattle.report.specs.Bytes.{listed}
-use Rattle.report.specs.Write.{bytes_of, total_of, check_of, closed, block_front, field_words, place_words}
+use Rattle.report.specs.Write.{word_bytes, bytes_of, total_of, check_of, closed, block_front}
 use Rattle.report.specs.inside.Put.{Put}
 use Rattle.report.proofs.Laws.Text.{sets-append}
 use Rattle.report.proofs.Laws.Write.Words.{bytes-length, bytes-append, total-append}
@@ -35,16 +34,12 @@ put_then {o} {m} {n} {p} {s} {q} {t} {r} {u} a b x y =
     step : (s t u a b c : ℕ) → t % 2 ^ 32 ≡ (s + a) % 2 ^ 32 → u % 2 ^ 32 ≡ (t + b) % 2 ^ 32 → c ≡ a + b → u % 2 ^ 32 ≡ (s + c) % 2 ^ 32
     step s t u a b c e f g = omega arith
 
--- a word: four stores
-pub put_one : (o : List ℕ) (at sum end after w a b c d : ℕ) → a ≡ w % 256 → b ≡ w / 256 % 256 → c ≡ w / 65536 % 256 → d ≡ w / 16777216 % 256
-    → end ≡ at + 4 → after ≡ (sum + w) % 2 ^ 32
-    → Put o (set (set (set (set o at a) (at + 1) b) (at + 2) c) (at + 3) d) at sum end after (w ∷ [])
+-- a word: its four bytes
+pub put_one : (o ys : List ℕ) (at sum end after w : ℕ) → ys ≡ to_le_bytes w32 w → at + 4 ≤ length o → end ≡ at + 4 → after ≡ (sum + w) % 2 ^ 32
+    → Put o (put_mid at (at + 4 - at) o ys) at sum end after (w ∷ [])
 unfolding bytes_of total_of
-put_one o at sum end after w a b c d ea eb ec ed e f =
-    let one : at + 1 ≡ suc at = omega arith in
-    let two : at + 2 ≡ suc (suc at) = omega arith in
-    let three : at + 3 ≡ suc (suc (suc at)) = omega arith in
-    record { bytes = rw (one, two, three, ea, eb, ec, ed); place = e; total = step sum w after f }
+put_one o ys at sum end after w is room e f =
+    record { bytes = put_mid-paste at (at + 4 - at) o ys (word_bytes w) 4 is (omega arith) refl ∙ sym (sets-eq (word_bytes w) o at room); place = e; total = step sum w after f }
   where
     step : (s w t : ℕ) → t ≡ (s + w) % 2 ^ 32 → t % 2 ^ 32 ≡ (s + (w + 0)) % 2 ^ 32
     step s w t e = omega arith
@@ -60,22 +55,14 @@ put-more {o} {m} {n} {p} {s} {q} {t} {r} {u} row i x y =
 pub put_as : {o n : List ℕ} {p s r u : ℕ} {a b : List ℕ} → a ≡ b → Put o n p s r u a → Put o n p s r u b
 put_as {o} {n} {p} {s} {r} {u} {a} {b} e x = subst (λ (l : List ℕ). Put o n p s r u l) e x
 
--- the same word under another name
-pub put_is : {o n : List ℕ} {p s r u v w : ℕ} → v ≡ w → Put o n p s r u (v ∷ []) → Put o n p s r u (w ∷ [])
-put_is e x = put_as (ap (λ (k : ℕ). k ∷ []) e) x
+-- one more of many words
+pub words-more : {o m n : List ℕ} {p s q t r u : ℕ} (ws : List ℕ) (i d : ℕ) → i < length ws → Put o m p s q t (take i ws) → Put m n q t r u (get_or ws i d ∷ [])
+    → Put o n p s r u (take (i + 1) ws)
+words-more ws i d h x y = put_as (sym (take-suc ws i d h) ∙ ap (λ (k : ℕ). take k ws) (sym (add-one i))) (put_then (take i ws) (get_or ws i d ∷ []) x y)
 
 -- one more word 0
 pub zeros-more : {o m n : List ℕ} {p s q t r u : ℕ} (i : ℕ) → Put o m p s q t (zero_words i) → Put m n q t r u (0 ∷ []) → Put o n p s r u (zero_words (i + 1))
 zeros-more i x y = put_as (replicate-append-replicate i 1 0) (put_then (zero_words i) (0 ∷ []) x y)
-
--- one more place of a field
-pub place-more : {o m n : List ℕ} {p s q t r u : ℕ} (count : ℕ) (fields : List Field) (j : ℕ) (d : Field) → j < length fields
-    → Put o m p s q t (listed (place_words count fields) j) → Put m n q t r u (cond (ltb j count) (field_words (get_or fields j d)) (zero_words field_size))
-    → Put o n p s r u (listed (place_words count fields) (j + 1))
-unfolding place_words
-place-more count fields j d h x y =
-    put-more (place_words count fields) j x
-    (put_as (ap (λ (g : Field). cond (ltb j count) (field_words g) (zero_words field_size)) (get_d_any fields j d (Level zero64) h)) y)
 
 -- ---- the end of a block
 

@@ -4,4 +4,4 @@ use Rattle.report.specs.Block.{blocks_from}
 use Rattle.report.proofs.block.check_blocks.Given as goal
 
 abbrev pub invariant-loop-k : goal.invariant-loop-k
-invariant-loop-k l = blocks_from l.s l.vertices l.elements (l.n + 1 - l.k) l.k ≡ blocks_from l.s l.vertices l.elements l.n 1
+invariant-loop-k l = blocks_from l.s l.counts.vertices l.counts.elements (l.n + 1 - l.k) l.k ≡ blocks_from l.s l.counts.vertices l.counts.elements l.n 1

@@ -1,6 +1,7 @@
 -- `report::block::check_body` meets its contract. Assumes nothing.
-use Rattle.std.proofs.Common.{◌+◌, arith, le-ltb, lt-ltb}
+use Rattle.std.proofs.Common.{◌+◌, refl, le-ltb, lt-ltb}
 use Rattle.report.specs.Format.{most_vertices, most_elements}
+use Rattle.report.specs.Block.{vertex_blocks, element_blocks}
 use Rattle.report.specs.Error.{number_of}
 use Rattle.report.proofs.Laws.Blocks.{body-many, body-few}
 use Rattle.report.proofs.block.check_body.Goals as goal
@@ -14,4 +15,4 @@ returns-then-vertices-gt-MOST_VERTICES c =
     ]
 
 pub returns : goal.returns
-returns c = body-few c.args.s.now c.args.vertices c.args.elements (c.vertex_blocks.result + c.element_blocks.result) (number_of c.check_blocks.result) c.if-vertices-gt-MOST_VERTICES.false c.if-elements-gt-MOST_ELEMENTS.false (omega (arith, c.vertex_blocks.ensures.0, c.element_blocks.ensures.0)) c.check_blocks.ensures
+returns c = body-few c.args.s.now c.args.vertices c.args.elements (vertex_blocks c.args.vertices + element_blocks c.args.elements) (number_of c.check_blocks.result) c.if-vertices-gt-MOST_VERTICES.false c.if-elements-gt-MOST_ELEMENTS.false refl c.check_blocks.ensures

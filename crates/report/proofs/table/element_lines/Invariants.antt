@@ -6,4 +6,4 @@ use Rattle.report.specs.inside.Written.{Written}
 use Rattle.report.proofs.table.element_lines.Given as goal
 
 abbrev pub invariant-loop-i : goal.invariant-loop-i
-invariant-loop-i l = (l.i ≤ l.n) × (l.p ≤ l.at + 580 * l.i) × (length l.out ≡ length l.initial.out) × Written l.initial.out l.out l.at l.p (element_lines (tets l.i l.elements))
+invariant-loop-i l = (l.i ≤ l.mesh.count) × (l.p ≤ l.at + 580 * l.i) × (length l.out ≡ length l.initial.out) × Written l.initial.out l.out l.at l.p (element_lines (tets l.i l.mesh.elements.now))

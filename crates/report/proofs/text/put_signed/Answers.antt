@@ -3,8 +3,8 @@ use Rattle.std.proofs.Common.{arith}
 use Rattle.report.proofs.Laws.Lines.{signed-plus, signed-minus}
 use Rattle.report.proofs.text.put_signed.Goals as goal
 
-pub returns-then-minus-plus : goal.returns-then-minus-plus
-returns-then-minus-plus c = (signed-plus c.args.plus c.args.minus c.if-minus-plus.true c.put_decimal.ensures.0, omega arith)
+pub returns-then-n : goal.returns-then-n
+returns-then-n c = (signed-plus c.args.n.plus c.args.n.minus c.if-n.true c.put_decimal.ensures.0, omega arith)
 
 pub returns : goal.returns
-returns c = (signed-minus c.args.at c.args.plus c.args.minus c.if-minus-plus.false c.put.ensures c.put_decimal-2.ensures.0, omega arith)
+returns c = (signed-minus c.args.at c.args.n.plus c.args.n.minus c.if-n.false c.put.ensures c.put_decimal-2.ensures.0, omega arith)

@@ -1,19 +1,16 @@
 -- `mesh::link::boundary::list_boundary` meets its contract, call by call. Assumes nothing.
 use Rattle.std.proofs.Common.{arith}
-use Rattle.mesh.proofs.Laws.LinkRows.Alone.{sorted-room, rows-room, boundary-rows, boundary-kept}
+use Rattle.mesh.proofs.Laws.LinkRows.Alone.{boundary-rows, boundary-kept}
+use Rattle.mesh.proofs.Laws.LinkRows.Whole.{same-both}
 use Rattle.mesh.proofs.link.boundary.list_boundary.Goals as goal
 
-pub list_alone-c-requires : goal.list_alone-c-requires
-list_alone-c-requires c = (c.requires.0, sorted-room c.args.a c.args.b c.args.n c.args.area.now c.sorted_keys.new.area c.args.area.now c.args.area.now c.requires.1 c.sorted_keys.ensures)
-
-pub overflow_mul-c : goal.overflow_mul-c
-overflow_mul-c c = omega (arith, c.requires.0, c.list_alone-c.ensures.1)
-
-pub sort_from-requires : goal.sort_from-requires
-sort_from-requires c = rows-room c.args.a c.args.b c.args.n c.args.area.now c.sorted_keys.new.area c.list_alone-c.new.area c.args.area.now c.requires.1 c.sorted_keys.ensures c.list_alone-c.result c.list_alone-c.ensures.0 c.list_alone-c.ensures.1 c.list_alone-c.ensures.2
-
-pub shape_of-area : goal.shape_of-area
-shape_of-area c = (boundary-kept c.args.a c.args.b c.args.n c.args.area.now c.sorted_keys.new.area c.list_alone-c.new.area c.sort_from.new.area c.requires.1 c.sorted_keys.ensures c.list_alone-c.result c.list_alone-c.ensures.0 c.list_alone-c.ensures.1 c.list_alone-c.ensures.2 c.sort_from.ensures).long
-
 pub returns : goal.returns
-returns c = (boundary-rows c.args.a c.args.b c.args.n c.args.area.now c.sorted_keys.new.area c.list_alone-c.new.area c.sort_from.new.area c.requires.1 c.sorted_keys.ensures c.list_alone-c.result c.list_alone-c.ensures.0 c.list_alone-c.ensures.1 c.list_alone-c.ensures.2 c.sort_from.ensures, omega (arith, c.list_alone-c.ensures.1), boundary-kept c.args.a c.args.b c.args.n c.args.area.now c.sorted_keys.new.area c.list_alone-c.new.area c.sort_from.new.area c.requires.1 c.sorted_keys.ensures c.list_alone-c.result c.list_alone-c.ensures.0 c.list_alone-c.ensures.1 c.list_alone-c.ensures.2 c.sort_from.ensures)
+returns c =
+    let x = c.args.area.now in
+    let a = c.args.ab.a in
+    let b = c.args.ab.b in
+    let k = c.sorted_keys.ensures in
+    let l = rw k.0.count at c.list_alone-c.ensures.1 in
+    let s = same-both k.0 c.list_alone-c.ensures.0 in
+    let e = rw (c.boundary_start-start.ensures, s.count) at c.sort_from.ensures in
+    (boundary-rows a b x.n x.words.now c.sorted_keys.new.area.words.now c.list_alone-c.new.area.words.now c.sort_from.new.area x.room k.1 c.list_alone-c.result l e, omega (arith, l.few), record { same = record { lent = s.lent; count = s.count }; elements = boundary-kept a b x.n x.words.now c.sorted_keys.new.area.words.now c.list_alone-c.new.area.words.now c.sort_from.new.area x.room k.1 c.list_alone-c.result l e })

@@ -8,10 +8,10 @@ use Rattle.mesh.proofs.link.features.feature_run.Goals as goal
 pub returns-then-x-area : goal.returns-then-x-area
 returns-then-x-area c =
     elim c.then-x-area.branch [
-      | then-x-area-via-then-x-area w ↦ feature-edge (strata_in c.args.strata) c.args.e.a c.args.e.b c.args.e.ab c.args.area.now c.args.p c.args.k c.requires.0 w.if-x-area.true
-      | then-x-area-via-else-x-area+then-x-e w ↦ feature-first (strata_in c.args.strata) c.args.e.a c.args.e.b c.args.e.ab c.args.area.now c.args.p c.args.k c.requires.0 w.if-x-area.false w.if-x-e.true
-      | then-x-area-via-else-x-area+else-x-e+then-x-e-2 w ↦ feature-second (strata_in c.args.strata) c.args.e.a c.args.e.b c.args.e.ab c.args.area.now c.args.p c.args.k c.requires.0 w.if-x-area.false w.if-x-e.false w.if-x-e-2.true
+      | then-x-area-via-then-x-area w ↦ feature-edge (strata_in c.args.e.now.ends.strata) c.args.e.now.ends.a c.args.e.now.ends.b c.args.e.now.ab c.args.area.now c.args.p c.args.k c.requires.0 w.if-x-area.true
+      | then-x-area-via-else-x-area+then-x-e w ↦ feature-first (strata_in c.args.e.now.ends.strata) c.args.e.now.ends.a c.args.e.now.ends.b c.args.e.now.ab c.args.area.now c.args.p c.args.k c.requires.0 w.if-x-area.false w.if-x-e.true
+      | then-x-area-via-else-x-area+else-x-e+then-x-e-2 w ↦ feature-second (strata_in c.args.e.now.ends.strata) c.args.e.now.ends.a c.args.e.now.ends.b c.args.e.now.ab c.args.area.now c.args.p c.args.k c.requires.0 w.if-x-area.false w.if-x-e.false w.if-x-e-2.true
     ]
 
 pub returns : goal.returns
-returns c = feature-at (strata_in c.args.strata) c.args.e.a c.args.e.b c.args.e.ab c.args.area.now c.args.p c.args.k c.requires.0 c.if-x-area.false c.if-x-e.false c.if-x-e-2.false _ (vertex-exact (strata_in c.args.strata) c.args.e.a c.args.e.b (get_or c.args.area.now c.args.p 0) c.args.e.ma c.args.e.mb c.of-mx.result c.args.e.ab c.has_mark-only_a.result c.has_mark-only_b.result c.has_mark-both.result _ _ _ _ c.requires.2.first c.requires.2.second c.of-mx.ensures.value c.has_mark-only_a.ensures c.has_mark-only_b.ensures c.has_mark-both.ensures c.vertex_by.ensures)
+returns c = feature-at (strata_in c.args.e.now.ends.strata) c.args.e.now.ends.a c.args.e.now.ends.b c.args.e.now.ab c.args.area.now c.args.p c.args.k c.requires.0 c.if-x-area.false c.if-x-e.false c.if-x-e-2.false _ (vertex-exact (strata_in c.args.e.now.ends.strata) c.args.e.now.ends.a c.args.e.now.ends.b (get_or c.args.area.now c.args.p 0) c.args.e.now.ma c.args.e.now.mb c.of-mx.result c.args.e.now.ab c.has_mark-a.result c.has_mark-b.result c.has_mark-both.result _ _ _ _ c.args.e.now.first c.args.e.now.second c.of-mx.ensures.value c.has_mark-a.ensures c.has_mark-b.ensures c.has_mark-both.ensures c.vertex_by.ensures)

@@ -1,28 +1,13 @@
--- `mesh::link::marks::has_mark` meets its contract. The invariant: the rows passed have another mark. Assumes nothing.
-use Rattle.std.proofs.Common.{◌≡◌, ◌+◌, ◌-◌, ◌*◌, arith}
-use Rattle.mesh.proofs.Laws.LinkRows.Areas.{seek-start, seek-room, seek_found, seek-turn, seek-end}
+-- `mesh::link::marks::has_mark` meets its contract: the mark of each row in turn. Assumes nothing.
+use Rattle.std.proofs.Common.{ℕ, ◌+◌, ◌*◌, eqb, get_or, refl, ◌∙◌, arith, rules, tests}
+use Rattle.std.proofs.lemmas.Iterator.{YieldsList-from_range}
+use Rattle.std.proofs.lemmas.Iterator.Search.{any_from_yields_List}
+use Rattle.mesh.proofs.Laws.LinkRows.Areas.{marked-any}
 use Rattle.mesh.proofs.link.marks.has_mark.Goals as goal
 
-pub loop-i-init : goal.loop-i-init
-loop-i-init c =
-    let e : c.args.k - 0 ≡ c.args.k = omega arith in
-    let f : c.args.p + 0 * (c.args.kw + 1) ≡ c.args.p = omega arith in
-    rw (e, f) (seek-start c.args.area.now c.args.p c.args.k c.args.kw c.args.m c.requires)
-
-pub overflow_mul-i : goal.overflow_mul-i
-overflow_mul-i c = let h = seek-room c.loop-i.invariant (omega arith) in omega arith
-
-pub overflow_add-p : goal.overflow_add-p
-overflow_add-p c = let h = seek-room c.loop-i.invariant (omega arith) in omega arith
-
-pub returns-then-area-p : goal.returns-then-area-p
-returns-then-area-p c = seek_found c.loop-i.invariant (omega arith) c.if-area-p.true
-
-pub loop-i-preserved : goal.loop-i-preserved
-loop-i-preserved c =
-    let e : c.args.k - c.loop-i.i - 1 ≡ c.args.k - (c.loop-i.i + 1) = omega arith in
-    let f : c.args.p + c.loop-i.i * (c.args.kw + 1) + (c.args.kw + 1) ≡ c.args.p + (c.loop-i.i + 1) * (c.args.kw + 1) = omega arith in
-    rw (e, f) at (seek-turn c.loop-i.invariant (omega arith) c.if-area-p.false)
-
 pub returns : goal.returns
-returns c = seek-end c.loop-i.invariant (omega arith)
+returns c =
+    let a = c.args in
+    let s = a.area.now in
+    any_from_yields_List (λ (i : ℕ). eqb (get_or s (a.p + i * (a.kw + 1) + a.kw) 0) a.m) _ _ _ c.any.ensures.ran (YieldsList-from_range 0 a.k a.k refl (omega arith)) (λ x b q k. search (rules, tests))
+    ∙ marked-any s a.p a.kw a.m a.k

@@ -1,18 +1,21 @@
--- `mesh::link::table::all_told` meets its contract. The invariant: what is left of the list from e on is the whole. Assumes nothing.
-use Rattle.std.proofs.Common.{◌*◌, sym, refl, ap, not, ◌∙◌}
+-- `mesh::link::table::all_told` meets its contract: the test of each element in turn. Assumes nothing.
+use Rattle.std.proofs.Common.{ℕ, ◌-◌, ◌*◌, Bool, List, length, take, drop, refl, ap, ◌∙◌, arith, rules, tests}
+use Rattle.std.proofs.lemmas.Iterator.{YieldsList-from_range}
+use Rattle.std.proofs.lemmas.Iterator.Search.{all_from_yields_List}
+use Rattle.mesh.specs.declared.element.Tet.{Tet}
+use Rattle.mesh.specs.Tests.{every}
+use Rattle.mesh.specs.Element.{tets}
+use Rattle.mesh.specs.inside.Intake.{tet_at}
 use Rattle.mesh.specs.inside.LinkTable.{told_tet}
-use Rattle.mesh.proofs.Laws.Intake.Chains.{fails_by, holds_by}
-use Rattle.mesh.proofs.Laws.Intake.Every.{tets-turn, tets-fail, tets-end}
+use Rattle.mesh.proofs.Laws.Parts.{tail-mid}
+use Rattle.mesh.proofs.Laws.Intake.Every.{tets-all}
 use Rattle.mesh.proofs.link.table.all_told.Goals as goal
 
-pub loop-e-init : goal.loop-e-init
-loop-e-init c = refl
-
-pub returns-then-not-tells_tet : goal.returns-then-not-tells_tet
-returns-then-not-tells_tet c = let p = told_tet (60 * c.args.n) c.args.area.now c.args.a c.args.b in sym (tets-fail p c.args.n c.args.area.now c.loop-e.e c.loop-e-test.true c.loop-e.invariant (fails_by (c.tells_tet.ensures ∙ ap p c.tet_at.ensures) (ap not c.if-not-tells_tet.true)))
-
-pub loop-e-preserved : goal.loop-e-preserved
-loop-e-preserved c = let p = told_tet (60 * c.args.n) c.args.area.now c.args.a c.args.b in tets-turn p c.args.n c.args.area.now c.loop-e.e c.loop-e-test.true c.loop-e.invariant (holds_by (c.tells_tet.ensures ∙ ap p c.tet_at.ensures) (ap not c.if-not-tells_tet.false))
-
 pub returns : goal.returns
-returns c = sym (tets-end (told_tet (60 * c.args.n) c.args.area.now c.args.a c.args.b) c.args.n c.args.area.now c.loop-e.e c.loop-e-test.false c.loop-e.invariant)
+returns c =
+    let n = c.args.area.now.n in
+    let s = c.args.area.now.words.now in
+    let p : List ℕ → Tet → Bool = λ table. told_tet table c.args.ab.a c.args.ab.b in
+    all_from_yields_List (λ (e : ℕ). p (take (length s - 60 * n) (drop (60 * n) s)) (tet_at s e)) _ _ _ c.all.ensures.ran (YieldsList-from_range 0 n n refl (omega arith)) (λ x b q k. search (rules, tests))
+    ∙ tets-all (p (take (length s - 60 * n) (drop (60 * n) s))) n s
+    ∙ ap (λ (l : List ℕ). every (p l) (tets n s)) (tail-mid (60 * n) s)

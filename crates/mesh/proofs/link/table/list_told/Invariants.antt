@@ -1,11 +1,8 @@
--- `mesh::link::table::list_told` meets its contract. The invariant: of the first j rows those are written that are to be. Assumes nothing.
-use Rattle.std.proofs.Common.{◌-◌, ◌*◌}
+-- `mesh::link::table::list_told` meets its contract. The invariant: the rows of the first e elements are written. Assumes nothing.
+use Rattle.std.proofs.Common.{◌*◌, take}
 use Rattle.mesh.specs.inside.LinkTable.{both_row}
 use Rattle.mesh.proofs.Laws.LinkRows.Table.{Listing}
 use Rattle.mesh.proofs.link.table.list_told.Given as goal
 
-abbrev pub invariant-loop-j : goal.invariant-loop-j
-invariant-loop-j l = Listing l.a l.b l.n l.initial.area (both_row (60 * l.n) l.initial.area) l.area l.c l.j
-
-abbrev pub decreases-loop-j : goal.decreases-loop-j
-decreases-loop-j l = 7 * l.n - l.j
+abbrev pub invariant-loop-e : goal.invariant-loop-e
+invariant-loop-e l = Listing l.ab.a l.ab.b l.n (take (60 * l.n) l.fn.area.words.now) (both_row l.table) l.front l.c l.e

@@ -4,4 +4,4 @@ use Rattle.geometry.proofs.Laws.Box.Cap.{stratum-lt}
 use Rattle.mesh.proofs.strata.Strata.of.Goals as goal
 
 pub returns-clause-below : goal.returns-clause-below
-returns-clause-below c = rw c.stratum.ensures (stratum-lt c.at.result c.args.self.bounds c.word.result (omega arith))
+returns-clause-below c = rw c.stratum.ensures (stratum-lt c.at-2.result c.args.self.bounds c.at.result (omega arith))

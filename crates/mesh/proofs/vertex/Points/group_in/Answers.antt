@@ -1,6 +1,6 @@
 -- `mesh::vertex::Points::group_in` meets its contract: rows listed and sorted. Assumes nothing.
-use Rattle.std.proofs.Common.{length, sym, ◌∙◌}
-use Rattle.mesh.proofs.Laws.Group.Area.{fits-is, grouped-no, grouped-yes}
+use Rattle.std.proofs.Common.{sym, ◌∙◌}
+use Rattle.mesh.proofs.Laws.Group.Area.{grouped-no, grouped-yes}
 use Rattle.mesh.specs.inside.Group.{group_fits}
 use Rattle.mesh.proofs.vertex.Points.group_in.Goals as goal
 
@@ -8,10 +8,6 @@ pub returns-then-not-fits : goal.returns-then-not-fits
 unfolding group_fits
 returns-then-not-fits c = grouped-no c.args.o c.args.self.floats.now c.args.self.count c.args.area.now (sym c.fits.ensures ∙ c.if-not-fits.true)
 
-pub list_groups-requires : goal.list_groups-requires
-unfolding group_fits
-list_groups-requires c = fits-is c.args.self.count (length c.args.area.now) (sym c.fits.ensures ∙ c.if-not-fits.false)
-
 pub returns : goal.returns
 unfolding group_fits
-returns c = let a = c.args in grouped-yes a.o a.self.floats.now a.self.count a.area.now c.list_groups.new.area (sym c.fits.ensures ∙ c.if-not-fits.false) c.list_groups.ensures c.sort_rows.new.area c.sort_rows.ensures
+returns c = let a = c.args in grouped-yes a.o a.self.floats.now a.self.count a.area.now c.fill_rows.new.area (sym c.fits.ensures ∙ c.if-not-fits.false) c.fill_rows.ensures c.sort_rows.new.area c.sort_rows.ensures

@@ -7,4 +7,4 @@ use Rattle.repair.proofs.Laws.Finish.Moved.{copied-over}
 use Rattle.repair.proofs.flip.finish.commit_flip.Goals as goal
 
 pub returns : goal.returns
-returns c = let h = c.requires.2 in (c.copy_into.ensures ∙ copied-over c.args.area.now c.args.elements.now (take (4 * c.args.k) c.args.area.now) 0 (4 * c.args.k) (omega arith) c.requires.3 refl, c.copy_into-2.ensures ∙ copied-over c.args.area.now c.args.surface.now (take (3 * c.args.c) (drop (4 * c.args.k) c.args.area.now)) (4 * c.args.k) (3 * c.args.c) h c.requires.4 refl)
+returns c = let h = c.requires.2 in (c.copy_part.ensures ∙ copied-over c.args.area.now c.args.elements.now (take (4 * c.args.k) c.args.area.now) 0 (4 * c.args.k) (omega arith) c.requires.3 refl, c.copy_part-2.ensures ∙ copied-over c.args.area.now c.args.surface.now (take (3 * c.args.c) (drop (4 * c.args.k) c.args.area.now)) (4 * c.args.k) (3 * c.args.c) h c.requires.4 refl)

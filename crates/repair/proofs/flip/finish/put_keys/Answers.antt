@@ -3,4 +3,4 @@ use Rattle.repair.proofs.Laws.Flip.Keys.{keying-end}
 use Rattle.repair.proofs.flip.finish.put_keys.Goals as goal
 
 pub returns : goal.returns
-returns c = keying-end c.requires.1 c.requires.2 c.loop-j.invariant c.loop-j-test.false
+returns c = keying-end c.loop-j.invariant c.loop-j-test.false

@@ -2,10 +2,10 @@
 use mathlib.Core.Path.{◌≡◌}
 use mathlib.Core.List.{map, ◌++◌}
 use lib.ListN.{take, drop}
-use Rattle.mesh.specs.Words.{points_of}
+use Rattle.mesh.specs.Words.{points_in}
 use Rattle.mesh.specs.Measure.{measure}
 use Rattle.repair.specs.Flip.{oriented}
 use Rattle.repair.proofs.flip.orient.orient.Given as goal
 
 abbrev pub invariant-loop-t : goal.invariant-loop-t
-invariant-loop-t l = l.ts ≡ map (oriented (measure (points_of l.nv l.points))) (take l.t-index l.initial.ts) ++ drop l.t-index l.initial.ts
+invariant-loop-t l = l.ts ≡ map (oriented (measure (points_in l.points))) (take l.t-index l.initial.ts) ++ drop l.t-index l.initial.ts

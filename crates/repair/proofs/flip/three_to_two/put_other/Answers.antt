@@ -11,4 +11,4 @@ returns-then-v-e-clause-puts c =
     ]
 
 pub returns-clause-puts : goal.returns-clause-puts
-returns-clause-puts c = (other-put c.args.e c.args.area.now _ c.args.k c.args.v c.if-v-e.false c.if-v-e-2.false c.requires c.put_word.ensures).0
+returns-clause-puts c = (other-put c.args.e c.args.area.now _ c.args.k c.args.v c.if-v-e.false c.if-v-e-2.false c.requires c.put.ensures).0

@@ -8,4 +8,4 @@ pub returns : goal.returns
 unfolding slot_replaced
 returns c =
     let a = c.args in
-    c.put_slot.ensures ∙ ap (put_slot a.work.now (a.x.slots + 4 * a.e)) (c.slot_after.ensures ∙ ap (slot_after a.a a.b) c.slot-t.ensures)
+    c.put_slot.ensures ∙ ap (put_slot a.work.now (a.x.slots + 4 * a.k)) (c.slot_after.ensures ∙ ap (slot_after a.e.a a.e.b) c.slot-t.ensures)

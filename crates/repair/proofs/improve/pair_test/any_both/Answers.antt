@@ -12,5 +12,5 @@ use Rattle.repair.proofs.improve.pair_test.any_both.Goals as goal
 pub returns : goal.returns
 returns c =
     let a = c.args in
-    any_from_yields_List (λ e. has a.a (tet_at a.elements.now e) && has a.b (tet_at a.elements.now e)) _ _ _ c.any.ensures.ran (YieldsList-from_range 0 a.k a.k refl (omega arith)) (λ x b q k. search (rules, tests))
-    ∙ scanned-all (λ t. has a.a t && has a.b t) a.elements.now a.k
+    any_from_yields_List (λ i. has a.e.a (tet_at a.elements.now i) && has a.e.b (tet_at a.elements.now i)) _ _ _ c.any.ensures.ran (YieldsList-from_range 0 a.k a.k refl (omega arith)) (λ x b q k. search (rules, tests))
+    ∙ scanned-all (λ t. has a.e.a t && has a.e.b t) a.elements.now a.k

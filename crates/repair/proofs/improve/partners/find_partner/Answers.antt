@@ -1,12 +1,8 @@
 -- `repair::improve::partners::find_partner` meets its contract. The invariant is `Seeking`: the partner is among the members left. Assumes nothing.
-use mathlib.Core.Path.{sym, subst, ◌∙◌}
-use Prim.Native.Nat.{ℕ, ◌<◌}
-use Rattle.repair.proofs.Laws.Pairs.Walks.{walk-vertex, seek-passive, seek-other, seek_found, seek-none}
+use mathlib.Core.Path.{sym, ◌∙◌}
+use Rattle.repair.proofs.Laws.Pairs.Walks.{seek-passive, seek-other, seek_found, seek-none}
 use Rattle.repair.proofs.improve.partners.find_partner.Goals as goal
 use Rattle.repair.proofs.improve.partners.find_partner.Goals.{else-is_active-via-then-is_active+else-c-cap_at, else-is_active-via-else-is_active}
-
-pub cap_at-requires : goal.cap_at-requires
-cap_at-requires c = subst (λ (u : ℕ). u < c.args.given.now.index.vertices) (sym c.member-u.ensures) (walk-vertex c.loop-i.invariant.walk c.loop-i-test.true)
 
 pub returns-then-c-cap_at : goal.returns-then-c-cap_at
 returns-then-c-cap_at c = seek_found c.loop-i.invariant c.member-u.result c.loop-i-test.true c.member-u.ensures (sym c.is_active.ensures ∙ c.if-is_active.true) (sym c.cap_at-c.ensures ∙ c.if-c-cap_at.true ∙ c.cap_at.ensures)

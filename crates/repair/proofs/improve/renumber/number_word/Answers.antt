@@ -3,7 +3,7 @@ use Rattle.repair.proofs.Laws.Finish.Numbering.{word-new, word-old}
 use Rattle.repair.proofs.improve.renumber.number_word.Goals as goal
 
 pub returns-then-mark-eq0 : goal.returns-then-mark-eq0
-returns-then-mark-eq0 c = word-new c.args.marks c.args.used c.args.count c.args.p c.args.area.now c.word-v.ensures c.word-mark.ensures c.if-mark-eq0.true c.put_word.ensures c.put_word-then-mark-eq0.ensures c.put_word-then-mark-eq0-2.ensures
+returns-then-mark-eq0 c = word-new c.args.marks c.args.used c.args.count c.args.p c.args.area.now c.at-v.ensures c.at-mark.ensures c.if-mark-eq0.true c.put.ensures c.put-then-mark-eq0.ensures c.put-then-mark-eq0-2.ensures
 
 pub returns-else-mark-eq0 : goal.returns-else-mark-eq0
-returns-else-mark-eq0 c = word-old c.args.marks c.args.used c.args.count c.args.p c.args.area.now c.word-v.ensures c.word-mark.ensures c.if-mark-eq0.false c.put_word-else-mark-eq0.ensures
+returns-else-mark-eq0 c = word-old c.args.marks c.args.used c.args.count c.args.p c.args.area.now c.at-v.ensures c.at-mark.ensures c.if-mark-eq0.false c.put-else-mark-eq0.ensures

@@ -7,7 +7,7 @@ use Rattle.geometry.specs.Point.{difference, norm}
 use Rattle.geometry.specs.Bounds.{spacing}
 use Rattle.mesh.specs.Intake.{in_box}
 use Rattle.repair.specs.Smooth.{outside_all}
-use Rattle.repair.specs.inside.smooth.Candidates.{regions_in}
+use Rattle.repair.specs.Step.{regions_in}
 use Rattle.repair.proofs.Laws.Candidate.Tests.{third, no_third}
 use Rattle.repair.proofs.smooth.candidates.allowed.Goals.{then-in_box, else-in_box}
 use Rattle.repair.proofs.smooth.candidates.allowed.Goals as goal
@@ -23,7 +23,7 @@ returns-then-is_empty c =
       | else-in_box w ↦ w.value-is ∙ w.if-in_box.false ∙ ap (λ (b : Bool). b && not far) (sym w.if-in_box.false ∙ c.in_box.ensures)
     ] in
     third (in_box o.bounds p) (not far) k c.if-not-spacing-norm.true
-    (c.if-is_empty.true ∙ sym (ap (λ (b : Bool). b || not (outside_all p c.args.fields.now (regions_in c.args.regions))) (sym c.if-is_empty.ensures)))
+    (c.if-is_empty.true ∙ sym (ap (λ (b : Bool). b || not (outside_all p c.args.regions.fields.list.now (regions_in c.args.regions.masks))) (sym c.if-is_empty.ensures)))
 
 pub returns-else-is_empty : goal.returns-else-is_empty
 unfolding of_bits
@@ -36,7 +36,7 @@ returns-else-is_empty c =
       | else-in_box w ↦ w.value-is ∙ w.if-in_box.false ∙ ap (λ (b : Bool). b && not far) (sym w.if-in_box.false ∙ c.in_box.ensures)
     ] in
     third (in_box o.bounds p) (not far) k c.if-not-spacing-norm.true
-    (ap not c.outside_all.ensures ∙ sym (ap (λ (b : Bool). b || not (outside_all p c.args.fields.now (regions_in c.args.regions))) (sym c.if-is_empty.ensures)))
+    (ap not c.outside_all.ensures ∙ sym (ap (λ (b : Bool). b || not (outside_all p c.args.regions.fields.list.now (regions_in c.args.regions.masks))) (sym c.if-is_empty.ensures)))
 
 pub returns-else-not-spacing-norm : goal.returns-else-not-spacing-norm
 unfolding of_bits
@@ -48,4 +48,4 @@ returns-else-not-spacing-norm c =
       | then-in_box w ↦ w.value-is ∙ (λ i. not (lt (half *₆₄ w.spacing.ensures i) ((w.norm.ensures ∙ ap norm w.sub.ensures) i))) ∙ ap (λ (b : Bool). b && not far) (sym w.if-in_box.true ∙ c.in_box.ensures)
       | else-in_box w ↦ w.value-is ∙ w.if-in_box.false ∙ ap (λ (b : Bool). b && not far) (sym w.if-in_box.false ∙ c.in_box.ensures)
     ] in
-    no_third (in_box o.bounds p) (not far) (eqb (length c.args.active.now) 0 || not (outside_all p c.args.fields.now (regions_in c.args.regions))) k c.if-not-spacing-norm.false
+    no_third (in_box o.bounds p) (not far) (eqb (length c.args.active.list.now) 0 || not (outside_all p c.args.regions.fields.list.now (regions_in c.args.regions.masks))) k c.if-not-spacing-norm.false

@@ -4,7 +4,7 @@ use Prim.Native.Nat.{◌+◌, ◌-◌, ◌<◌}
 use native.Mathlib.Omega.{arith}
 use Rattle.repair.specs.Smooth.{mapped}
 use Rattle.repair.specs.inside.smooth.Site.{new_parameters, new_point}
-use Rattle.repair.proofs.Laws.Site.Moved.{placed-start, placed-from, placed-turn, placed_end, still-old, put-at}
+use Rattle.repair.proofs.Laws.Site.Moved.{placed-start, placed-from, placed-turn, still-old, put-at}
 use Rattle.repair.proofs.smooth.move_group.move_group.Goals as goal
 
 pub loop-k-init : goal.loop-k-init
@@ -25,21 +25,8 @@ loop-k-preserved c = let s = c.args.s in
     let f : c.loop-k.k ≡ k + 1 = omega arith in
     let P = placed-from w s.group s.count s.vertices new c.args.parameters.now c.loop-k.parameters k f c.loop-k.invariant.1 in
     let Q = placed-from w s.group s.count s.vertices new' c.args.points.now c.loop-k.points k f c.loop-k.invariant.2 in
-    let e = still-old w s.group s.count c.args.o s.vertices c.args.p new c.args.parameters.now c.loop-k.parameters k c.requires.in_range.1 h P in (
+    let e = still-old w s.group s.count c.args.o s.vertices c.args.p new c.args.parameters.now c.loop-k.parameters k c.requires.once h P in (
       omega (arith, h),
-      placed-turn w s.group s.count s.vertices new c.args.parameters.now c.loop-k.parameters _ k h P (put-at s.vertices c.loop-k.parameters _ (new_parameters c.args.o s.vertices c.loop-k.parameters c.args.p) c.word-v.ensures e c.move_vertex.ensures.put),
-      placed-turn w s.group s.count s.vertices new' c.args.points.now c.loop-k.points _ k h Q (put-at s.vertices c.loop-k.points _ (new_point c.args.o s.vertices c.loop-k.parameters c.args.p) c.word-v.ensures (ap mapped e) c.move_vertex.ensures.put_2),
+      placed-turn w s.group s.count s.vertices new c.args.parameters.now c.loop-k.parameters _ k h P (put-at s.vertices c.loop-k.parameters _ (new_parameters c.args.o s.vertices c.loop-k.parameters c.args.p) c.at-v.ensures e c.move_vertex.ensures.put_parameters),
+      placed-turn w s.group s.count s.vertices new' c.args.points.now c.loop-k.points _ k h Q (put-at s.vertices c.loop-k.points _ (new_point c.args.o s.vertices c.loop-k.parameters c.args.p) c.at-v.ensures (ap mapped e) c.move_vertex.ensures.put_points),
     )
-
-pub shape_of-parameters : goal.shape_of-parameters
-shape_of-parameters c = c.loop-k.invariant.1.long
-
-pub shape_of-points : goal.shape_of-points
-shape_of-points c = c.loop-k.invariant.2.long
-
-pub returns : goal.returns
-returns c = let s = c.args.s in
-    let w = c.args.work.now in
-    let new = new_parameters c.args.o s.vertices c.args.parameters.now c.args.p in
-    let new' = new_point c.args.o s.vertices c.args.parameters.now c.args.p in
-    record { placed = placed_end w s.group s.count s.vertices new c.args.parameters.now c.loop-k.parameters c.loop-k.k c.loop-k-test.false c.loop-k.invariant.1; placed_2 = placed_end w s.group s.count s.vertices new' c.args.points.now c.loop-k.points c.loop-k.k c.loop-k-test.false c.loop-k.invariant.2 }

@@ -12,4 +12,4 @@ returns-then-nv-i c = put-past c.args.nv c.args.points.now c.args.v c.args.p c.i
 
 pub returns : goal.returns
 returns c = put_three c.args.nv c.args.points.now _ c.args.v c.args.p c.if-nv-i.false c.requires.1
-    (c.put_float-3.ensures ∙ ap (λ (s : List Float). set s (3 * c.args.v + 2) c.args.p.z) (c.put_float-2.ensures ∙ ap (λ (s : List Float). set s (3 * c.args.v + 1) c.args.p.y) c.put_float.ensures))
+    (c.put-3.ensures ∙ ap (λ (s : List Float). set s (3 * c.args.v + 2) c.args.p.z) (c.put-2.ensures ∙ ap (λ (s : List Float). set s (3 * c.args.v + 1) c.args.p.y) c.put.ensures))

@@ -1,6 +1,7 @@
 -- `trial_scores::lowest_about` meets its contract. The invariant: the lowest of what is left, from what is found so far, is the lowest of the whole. Assumes nothing.
-use Rattle.std.proofs.Common.{◌≡◌, ℕ, ◌+◌, ◌-◌, ◌∙◌, sym, ap, arith}
+use Rattle.std.proofs.Common.{◌≡◌, ℕ, List, ◌+◌, ◌-◌, ◌∙◌, sym, ap, arith}
 use lib.Ieee.{of_bits}
+use Rattle.geometry.specs.declared.point.Point.{Point}
 use Rattle.geometry.specs.Float.{smaller, one64}
 use Rattle.mesh.specs.Words.{word_at, points_of}
 use Rattle.mesh.specs.inside.Intake.{tet_at}
@@ -23,7 +24,7 @@ loop-i-preserved c =
     let els = c.args.elements.now in
     let w = c.args.work.now in
     let l = c.loop-i in
-    let e : c.smaller-low.result ≡ smaller l.low (score_of ps (tet_at els (word_at w l.i))) = c.smaller-low.ensures ∙ ap (smaller l.low) (c.score_of.ensures ∙ ap (score_of ps) (c.tet_at-t.ensures ∙ ap (tet_at els) c.word.ensures)) in
+    let e : c.smaller-low.result ≡ smaller l.low (score_of ps (tet_at els (word_at w l.i))) = c.smaller-low.ensures ∙ ap (smaller l.low) (c.score.ensures ∙ ap (λ (qs : List Point). score_of qs c.tet_at-t.result) c.new-points.ensures ∙ ap (score_of ps) (c.tet_at-t.ensures ∙ ap (tet_at els) c.at.ensures)) in
     let n : s.area + s.about - (l.i + 1) ≡ (s.area + s.about - l.i) - 1 = omega arith in
     ap (low_left els w ps (l.i + 1) (s.area + s.about - (l.i + 1))) e ∙ ap (λ (k : ℕ). low_left els w ps (l.i + 1) k (smaller l.low (score_of ps (tet_at els (word_at w l.i))))) n
     ∙ low_turn els w ps l.i (s.area + s.about - l.i) l.low (omega (arith, c.loop-i-test.true)) ∙ l.invariant

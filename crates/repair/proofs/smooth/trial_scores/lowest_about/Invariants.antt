@@ -8,5 +8,5 @@ use Rattle.repair.proofs.smooth.trial_scores.lowest_about.Given as goal
 
 abbrev pub invariant-loop-i : goal.invariant-loop-i
 invariant-loop-i l =
-    let ps = points_of l.s.vertices l.points in
-    low_left l.elements l.work ps l.i (l.s.area + l.s.about - l.i) l.low ≡ lowest_of (measure ps) (about l.elements l.work l.s.area l.s.about)
+    let ps = points_of l.fn.s.vertices l.fn.points in
+    low_left l.elements l.work ps l.i (l.fn.s.area + l.fn.s.about - l.i) l.low ≡ lowest_of (measure ps) (about l.elements l.work l.fn.s.area l.fn.s.about)

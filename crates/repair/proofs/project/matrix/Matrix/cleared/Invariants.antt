@@ -1,0 +1,10 @@
+-- `matrix::Matrix::cleared` meets its contract. The invariant: what is left from column j on is the whole. Assumes nothing.
+use mathlib.Core.Path.{◌≡◌}
+use Prim.Native.Nat.{◌+◌, ◌≤◌}
+use lib.ListN.{length, take}
+use Rattle.repair.specs.Project.{less_from}
+use Rattle.repair.proofs.project.matrix.Matrix.cleared.Given as goal
+
+abbrev pub invariant-loop-j : goal.invariant-loop-j
+invariant-loop-j l = let n = l.fn.self.size in
+    (l.j ≤ n + 1) × (length l.row ≡ 9) × (less_from l.j l.factor (take (n + 1) l.row) (take (n + 1) l.pivot) ≡ less_from l.fn.k l.factor (take (n + 1) l.initial.row) (take (n + 1) l.pivot))

@@ -1,9 +1,0 @@
--- `report::write::put_vertices` meets its contract. The invariant: i records stand there. Assumes nothing.
-use Rattle.std.proofs.Common.{◌≡◌, ◌+◌, ◌*◌, ◌≤◌, length}
-use Rattle.report.specs.Format.{vertex_size}
-use Rattle.report.specs.Write.{vertex_record, records_from}
-use Rattle.report.specs.inside.Put.{Put}
-use Rattle.report.proofs.write.put_vertices.Given as goal
-
-abbrev pub invariant-loop-i : goal.invariant-loop-i
-invariant-loop-i l = (l.i ≤ l.n) × (length l.out ≡ length l.initial.out) × (l.d.at ≡ l.initial.d.at + 4 * vertex_size * l.i) × Put l.initial.out l.out l.initial.d.at l.initial.d.sum l.d.at l.d.sum (records_from (vertex_record l.parameters l.points l.masks) l.first l.i)
