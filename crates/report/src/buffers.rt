@@ -56,7 +56,7 @@ fn put_surface(elements: &[u32], n: usize, surface: &mut [u32], work: &mut [u32]
 
 impl Buffers {
     // Buffers that hold zeros.
-    pub fn new() -> Buffers
+    pub(crate) fn new() -> Buffers
         ensures { ◌≡◌ {A = State} (state_in result no_sizes) blank }
     {
         Buffers {
@@ -71,7 +71,7 @@ impl Buffers {
     }
 
     // Puts the vertices and elements of a file that is read, and their surface, to the buffers' fronts.
-    pub fn read_plot(&mut self, s: &[u8]) -> Sizes
+    pub(crate) fn read_plot(&mut self, s: &[u8]) -> Sizes
         requires { reading_number s.now ≡ 0 }
         ensures fact { ◌≡◌ {A = State} (state_in self.new result) (placed (plot_in s.now) (state_in self.old no_sizes)) }
         ensures room { (length self.new.work ≡ word_room) × (length self.new.floats ≡ float_room) }

@@ -57,7 +57,7 @@ impl Buffers {
     }
 
     // Writes the text of a run.
-    pub fn print_run(
+    pub(crate) fn print_run(
         &mut self,
         out: &mut [u8],
         ran: Result<Finished, Stopped>,

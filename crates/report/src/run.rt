@@ -110,7 +110,11 @@ impl Buffers {
     }
 
     // Runs `improve`, `smooth` and `flip` once with no regions; the first that refuses ends the run. The work holds zeros after.
-    pub fn run_passes(&mut self, s: Settings, fields: [Field; 8]) -> Result<Finished, Stopped>
+    pub(crate) fn run_passes(
+        &mut self,
+        s: Settings,
+        fields: [Field; 8],
+    ) -> Result<Finished, Stopped>
         ensures fact { ◌≡◌ {A = Ran × State} (ran_of result, state_in self.new (sizes_left (ran_of result)))
             (run_passes (setting_for s fields self.old.work self.old.floats) (state_in self.old s.sizes)) }
         ensures work_after { self.new.work ≡ zero_words (length self.old.work) }

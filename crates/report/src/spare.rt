@@ -75,7 +75,7 @@ impl<'a> Block<'a> {
 
     // Whether its spare words, where this kind and count are expected, are zero.
     #[tactic(auto, unfolding(crate::specs::Block::spare_zero))]
-    pub fn spare_zero(self, kind: BlockKind, count: usize) -> bool
+    pub(crate) fn spare_zero(self, kind: BlockKind, count: usize) -> bool
         requires { count < 1000 }
         ensures { result ≡ spare_zero self.entry.bytes.now self.entry.k (block_kind_number kind) count }
     {
