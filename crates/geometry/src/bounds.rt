@@ -134,6 +134,7 @@ impl Span {
 }
 
 // h: the smallest cell size.
+// Kept by hand: a fold over the three missed the bar of speed, by a third.
 pub fn spacing(o: Options) -> f64
     ensures { result ≡ spacing o }
 {
@@ -141,7 +142,7 @@ pub fn spacing(o: Options) -> f64
     let x = b.x().cell_size(o.cells.x);
     let y = b.y().cell_size(o.cells.y);
     let z = b.z().cell_size(o.cells.z);
-    [x, y, z].into_iter().fold(f64::INFINITY, smaller)
+    smaller(smaller(smaller(f64::INFINITY, x), y), z)
 }
 
 // Whether the bit of a direction is set: any number may be asked for, and from 32 on none is set.
