@@ -65,13 +65,24 @@ pub fn zero_all<T: Zero>(s: &mut [T])
     s.fill(T::zero());
 }
 
+// Copies the elements of a slice over those of another of its length.
+// Kept by hand: `copy_from_slice` calls `memmove` of the C library, which the archives for C do not need.
+fn copy<T: Copy>(to: &mut [T], from: &[T])
+    requires { length to.old ≡ length from.now }
+    ensures { to.new ≡ from.now }
+{
+    for i in 0..from.len() {
+        to[i] = from[i];
+    }
+}
+
 // Copies the elements of x from i on, n of them, to d from k on; nothing where x or d is too short.
 #[tactic(auto, unfolding(crate::specs::Words::inside, crate::specs::Words::copied))]
 pub fn copy_part<T: Copy>(x: &[T], i: usize, d: &mut [T], k: usize, n: usize)
     ensures { d.new ≡ copied x.now i d.old k n }
 {
     if is_within(i, n, x.len()) && is_within(k, n, d.len()) {
-        d[k..k + n].copy_from_slice(&x[i..i + n]);
+        copy(&mut d[k..k + n], &x[i..i + n]);
     }
 }
 
@@ -100,7 +111,7 @@ pub(crate) fn copy_over(to: &mut [u32], from: &[u32], n: usize)
     requires { (n ≤ length to.old) × (n ≤ length from.now) }
     ensures { to.new ≡ paste to.old 0 from.now n }
 {
-    to[..n].copy_from_slice(&from[..n]);
+    copy(&mut to[..n], &from[..n]);
 }
 
 // All words from a on 0.

@@ -7,7 +7,7 @@ use Rattle.mesh.specs.Words.{flat}
 use Rattle.mesh.proofs.Laws.Bools.{split}
 use Rattle.mesh.proofs.Laws.Parts.{paste-part}
 use Rattle.mesh.proofs.Laws.Unique.{length-unique}
-use Rattle.mesh.proofs.Laws.Rows.{one-row, fit_words, length-flat, length-rows, shape-rows, shape-unique}
+use Rattle.mesh.proofs.Laws.Rows.{one-row, fit_words, rows-flat, length-flat, length-rows, shape-rows, shape-unique}
 
 -- what holds at the head of the loop: `last` is where the last row that was kept stands
 pub record Keeping (s₀ : List ℕ) (n w : ℕ) (s : List ℕ) (last i left kept : ℕ) : Type 0 where
@@ -144,6 +144,14 @@ keep-start s (suc n) w h = record {
 -- ---- the area
 
 module _ (n w : ℕ) (s : List ℕ) where
+  -- its rows, where there is room
+  pub rows-unique : fit_rows n w (length s) ≡ true → rows w (length (unique_rows n w s)) (unique_area n w s) ≡ unique eq_row (rows w n s)
+  unfolding unique_area
+  rows-unique e =
+      let f = (fit_words n w (length s) e).1 in
+      ap (λ (u : List (List ℕ)). rows w (length u) (flat u ++ drop (length u * w) s)) (unique-is n w s e)
+      ∙ rows-flat (shape-unique (shape-rows w n s f)) (drop (length (unique eq_row (rows w n s)) * w) s)
+
   -- no more rows than before
   pub length-unique-rows : length (unique_rows n w s) ≤ n
   length-unique-rows = ⊎_elim yes no (split (fit_rows n w (length s)))
