@@ -1,4 +1,5 @@
 -- Laws of the candidates of `smooth`.
 pub mod Chosen
 pub mod Mean
+pub mod Numbered
 pub mod Tests

@@ -68,6 +68,11 @@ module _ (o : Options) (high : sized_point o.bounds.hi ≡ true) where
   unfolding move_to
   moved-near s g p n k = placed-all (λ v. mapped (kept_on o (point_at s.parameters v) p)) (Near 20) g s.points n (λ v. mapped-near (kept_on o (point_at s.parameters v) p) (kept_near (point_at s.parameters v) p k))
 
+-- there are as many as before
+pub moved_length : (o : Options) (s : State) (g : List ℕ) (p : Point) → length (move_to o s g p).points ≡ length s.points
+unfolding move_to
+moved_length o s g p = length-placed (λ v. mapped (kept_on o (point_at s.parameters v) p)) g s.points
+
 -- an element away from the group keeps determinant and score
 module _ (o : Options) (s : State) (g : List ℕ) (p : Point) (t : Tet) (h : any (λ v. has v t) g ≡ false) where
   pub away-determinant : determinant_of (move_to o s g p).points t ≡ determinant_of s.points t

@@ -131,6 +131,10 @@ module _ (score : Tet → Float) (exact : (t : Tet) → Exact (score t)) where
   unfolding lowest
   lowest-over F h ts k = from-over F one64 h ts k
 
+  -- at least that of more elements
+  pub lowest-fewer : (some all : List Tet) → ((t : Tet) → Memᴰ t some → Memᴰ t all) → units_of (lowest (map score all)) ≤ units_of (lowest (map score some))
+  lowest-fewer some all h = lowest-over (units_of (lowest (map score all))) (lowest-one all) some (λ t m. lowest-under all (h t m))
+
 -- ---- in the terms of demand 3
 
 pub tenth-exact : Exact tenth
