@@ -1,5 +1,6 @@
 -- The numbers of block files, once each, with the words of document 01 ("Block") that give them, and `plot`'s limits. src/format.rt has the
--- same names for the code. A size is a number of words, a place the number of a word in its block. Definitions only.
+-- same names for the code, but that the kinds are values of its `BlockKind` and of geometry's `Kind`. A size is a number of words, a place the
+-- number of a word in its block. Definitions only.
 use Rattle.std.specs.Prelude.{ℕ, cond, ◌==◌}
 use Rattle.report.specs.declared.format.BlockKind.{BlockKind}
 use Rattle.report.specs.declared.format.BlockKind.TheVariants.{Header, Vertices, Elements}

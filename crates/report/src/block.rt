@@ -1,7 +1,7 @@
 // The blocks of a file: what is wrong with them, in the order of the tests.
 ghost use Rattle.std.specs.Prelude.{◌≡◌, ◌+◌, ◌-◌, ◌*◌, ◌<◌, ◌≤◌};
 ghost use Rattle.report.specs.Format.{block_kind_number, elements_a_block, most_vertices, most_elements};
-ghost use Rattle.report.specs.Error.{number_of};
+ghost use Rattle.report.specs.inside.Error.{number_of};
 ghost use Rattle.report.specs.Block.{adds_to_zero, is_expected, block_number, vertex_blocks, element_blocks, kind_of, count_of, end_number, blocks_from, body_number, file_number};
 
 use crate::bytes::{sum, word};

@@ -1,6 +1,6 @@
 // What can be wrong with a file, each with its number of the table.
 ghost use Rattle.std.specs.Prelude.{◌≡◌};
-ghost use Rattle.report.specs.Error.{error_number};
+ghost use Rattle.report.specs.inside.Error.{error_number};
 
 #[derive(Clone, Copy, PartialEq, Eq, Debug)]
 pub(crate) enum FileError {

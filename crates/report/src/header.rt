@@ -2,7 +2,7 @@
 ghost use Rattle.std.specs.Prelude.{◌≡◌, ◌<◌};
 ghost use Rattle.geometry.specs.Field.{number_of as kind_number};
 ghost use Rattle.report.specs.Format.{field_places};
-ghost use Rattle.report.specs.Error.{number_of};
+ghost use Rattle.report.specs.inside.Error.{number_of};
 ghost use Rattle.report.specs.Block.{header_options, field_from, field_at, header_fields, kinds_number, reading_number};
 
 use crate::block::check_file;

@@ -5,7 +5,7 @@ ghost use Rattle.mesh.specs.inside.Complex.{Proper};
 ghost use Rattle.mesh.specs.Element.{tets, vertices_of};
 ghost use Rattle.mesh.specs.inside.Euler.{counts_of};
 ghost use Rattle.report.specs.Table.{table_text};
-ghost use Rattle.report.specs.Ran.{ran_of};
+ghost use Rattle.report.specs.inside.Ran.{ran_of};
 ghost use Rattle.report.specs.Run.{sizes_left};
 ghost use Rattle.report.specs.Report.{table_of, printed};
 ghost use Rattle.report.specs.inside.Written.{Written, Ready};

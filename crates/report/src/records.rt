@@ -86,7 +86,7 @@ pub(crate) struct Elements<'a> {
     ghost few: { blocks ≤ 4 },
 }
 
-impl<'a> Rows<u32, 4> for Elements<'a> {
+impl<'a> Rows<u32, ELEMENT_SIZE> for Elements<'a> {
     ghost told = { λ r. element_row r.file.now r.blocks };
 
     #[tactic(auto, unfolding(crate::specs::Block::element_row))]

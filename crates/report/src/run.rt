@@ -2,7 +2,7 @@
 ghost use Rattle.std.specs.Prelude.{◌≡◌, length};
 ghost use Rattle.mesh.specs.Words.{zero_words, zero_floats};
 ghost use Rattle.repair.specs.Step.{State};
-ghost use Rattle.report.specs.Ran.{ran_of};
+ghost use Rattle.report.specs.inside.Ran.{ran_of};
 ghost use Rattle.report.specs.Run.{Ran, setting_for, run_flip, run_smooth, run_passes, sizes_left};
 ghost use Rattle.report.specs.inside.Buffers.{state_in};
 

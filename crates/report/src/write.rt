@@ -11,8 +11,9 @@ ghost use Rattle.report.specs.inside.Rows.{place_words-wide, vertex_record-wide,
 
 use crate::block::{element_blocks, vertex_blocks};
 use crate::format::{
-    BYTES_A_BLOCK, BlockKind, ELEMENTS_A_BLOCK, FIELD_PLACES, FIELD_SIZE, HEADER_SIZE,
-    MOST_ELEMENTS, MOST_VERTICES, RECORD_ROOM, VERTICES_A_BLOCK,
+    BOUNDS_PLACE, BYTES_A_BLOCK, BlockKind, COUNT_PLACE, ELEMENT_SIZE, ELEMENTS_A_BLOCK,
+    FIELD_PLACES, FIELD_SIZE, HEADER_SIZE, MOST_ELEMENTS, MOST_VERTICES, RECORD_ROOM, VERTEX_SIZE,
+    VERTICES_A_BLOCK,
 };
 use crate::plot::{File, Plot};
 use crate::rows::Rows;
@@ -105,8 +106,11 @@ impl Cursor {
     }
 }
 
+// How many words of the header hold the box, the cells, periodic bits and passes.
+const OPTIONS_SIZE: usize = COUNT_PLACE - BOUNDS_PLACE;
+
 // The bounds, x lo, x hi, y, z, the cells, periodic bits and passes.
-fn options_words(o: Options) -> [u32; 17]
+fn options_words(o: Options) -> [u32; OPTIONS_SIZE]
     ensures { result ≡ options_words o }
 {
     let lo = o.bounds.lo;
@@ -164,7 +168,7 @@ fn field_at(fields: &[Field], j: usize) -> Field
 #[derive(Clone, Copy)]
 struct Places<'a>(&'a Plot<'a>);
 
-impl<'a> Rows<u32, 9> for Places<'a> {
+impl<'a> Rows<u32, FIELD_SIZE> for Places<'a> {
     ghost told = { λ r. place_words r.0.now.count r.0.now.fields };
 
     fn put(&self, j: usize, to: &mut [u32]) {
@@ -182,7 +186,7 @@ impl<'a> Rows<u32, 9> for Places<'a> {
 #[derive(Clone, Copy)]
 struct Vertices<'a>(&'a Plot<'a>);
 
-impl<'a> Rows<u32, 13> for Vertices<'a> {
+impl<'a> Rows<u32, VERTEX_SIZE> for Vertices<'a> {
     ghost told = { λ r. vertex_record r.0.now.parameters.now r.0.now.points.now r.0.now.masks.now };
 
     #[tactic(auto, unfolding(crate::specs::Write::vertex_record))]
@@ -213,7 +217,7 @@ impl<'a> Rows<u32, 13> for Vertices<'a> {
 #[derive(Clone, Copy)]
 struct Elements<'a>(&'a Plot<'a>);
 
-impl<'a> Rows<u32, 4> for Elements<'a> {
+impl<'a> Rows<u32, ELEMENT_SIZE> for Elements<'a> {
     ghost told = { λ r. element_record r.0.now.corners.now };
 
     #[tactic(auto, unfolding(crate::specs::Write::element_record))]

@@ -2,7 +2,7 @@
 use Rattle.std.proofs.Common.{◌≡◌, arith}
 use Rattle.report.specs.declared.error.FileError.{FileError}
 use Rattle.report.specs.declared.error.FileError.TheVariants.{WrongLength, WrongSum, UnexpectedBlock, SpareWord, TooLarge, UnknownField}
-use Rattle.report.specs.Error.{error_number}
+use Rattle.report.specs.inside.Error.{error_number}
 
 pub error-some : (e : FileError) → error_number e ≡ 0 → ⊥
 error-some WrongLength h = omega arith

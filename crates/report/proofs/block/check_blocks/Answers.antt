@@ -2,7 +2,7 @@
 use Rattle.std.proofs.Common.{◌≡◌, ℕ, ◌+◌, ◌-◌, sym, refl, ap, ◌∙◌, arith}
 use Rattle.std.proofs.lemmas.Result.{err_from_is_err_and}
 use Rattle.report.specs.Block.{blocks_from, end_number}
-use Rattle.report.specs.Error.{error_number, number_of}
+use Rattle.report.specs.inside.Error.{error_number, number_of}
 use Rattle.report.proofs.Laws.Blocks.{blocks-stop, blocks-go, blocks_end}
 use Rattle.report.proofs.Laws.Errors.{error-some}
 use Rattle.report.proofs.block.check_blocks.Goals as goal

@@ -2,7 +2,7 @@
 use Rattle.std.proofs.Common.{◌+◌, refl, le-ltb, lt-ltb}
 use Rattle.report.specs.Format.{most_vertices, most_elements}
 use Rattle.report.specs.Block.{vertex_blocks, element_blocks}
-use Rattle.report.specs.Error.{number_of}
+use Rattle.report.specs.inside.Error.{number_of}
 use Rattle.report.proofs.Laws.Blocks.{body-many, body-few}
 use Rattle.report.proofs.block.check_body.Goals as goal
 use Rattle.report.proofs.block.check_body.Goals.{then-vertices-gt-MOST_VERTICES-via-then-vertices-gt-MOST_VERTICES, then-vertices-gt-MOST_VERTICES-via-else-vertices-gt-MOST_VERTICES+then-elements-gt-MOST_ELEMENTS}

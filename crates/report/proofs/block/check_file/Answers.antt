@@ -2,7 +2,7 @@
 use Rattle.std.proofs.Common.{◌≡◌, refl}
 use Rattle.std.proofs.lemmas.Result.{err_from_is_err_and}
 use Rattle.report.specs.Block.{file_number}
-use Rattle.report.specs.Error.{error_number, number_of}
+use Rattle.report.specs.inside.Error.{error_number, number_of}
 use Rattle.report.proofs.Laws.Blocks.{file-stop, file-go}
 use Rattle.report.proofs.Laws.Errors.{error-some}
 use Rattle.report.proofs.block.check_file.Goals as goal

@@ -2,7 +2,7 @@
 use Rattle.std.proofs.Common.{◌≡◌, refl}
 use Rattle.std.proofs.lemmas.Result.{err_from_is_err_and}
 use Rattle.report.specs.Block.{reading_number}
-use Rattle.report.specs.Error.{error_number, number_of}
+use Rattle.report.specs.inside.Error.{error_number, number_of}
 use Rattle.report.proofs.Laws.Blocks.{reading-stop, reading-go}
 use Rattle.report.proofs.Laws.Errors.{error-some}
 use Rattle.report.proofs.header.check.Goals as goal

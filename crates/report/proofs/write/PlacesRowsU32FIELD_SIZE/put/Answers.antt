@@ -2,7 +2,7 @@
 use Rattle.std.proofs.Common.{ap, ◌∙◌, lt-ltb, le-ltb}
 use Rattle.mesh.specs.Words.{zero_words}
 use Rattle.report.specs.Write.{field_words, place_words}
-use Rattle.report.proofs.write.PlacesRowsU329.put.Goals as goal
+use Rattle.report.proofs.write.PlacesRowsU32FIELD_SIZE.put.Goals as goal
 
 pub returns-then-j-self : goal.returns-then-j-self
 unfolding place_words
