@@ -1,9 +1,10 @@
 // A call of data/passes.txt: the pass with its inputs beside the mesh, and what it answers.
-use crate::words::{Mask, ReadError, Same, Words, masks};
+use crate::words::{Mask, Same, Words, masks};
 use geometry::bounds::Options;
 use geometry::field::Field;
 use mesh::intake::{Settings, Sizes};
 use mesh::refusal::Refusal;
+use mesh::words::low_half;
 use repair::answer::Made;
 use repair::flip::flip;
 use repair::improve::improve;
@@ -17,18 +18,39 @@ pub(crate) enum Pass {
     Flip,
 }
 
-impl TryFrom<u32> for Pass {
-    type Error = ReadError;
+// A number that no pass has.
+#[derive(Clone, Copy, Debug, PartialEq, Eq)]
+pub(crate) struct UnknownPass;
 
-    fn try_from(number: u32) -> Result<Pass, ReadError> {
+impl TryFrom<u64> for Pass {
+    type Error = UnknownPass;
+
+    fn try_from(number: u64) -> Result<Pass, UnknownPass> {
         match number {
             0 => Ok(Pass::Improve),
             1 => Ok(Pass::Smooth),
             2 => Ok(Pass::Flip),
-            _ => Err(ReadError::Malformed),
+            _ => Err(UnknownPass),
         }
     }
 }
+
+// How much of a list is read: of the five buffers, the regions and both work slices. What a list has behind is passed over.
+const PARAMETERS: usize = 64;
+
+const POINTS: usize = 64;
+
+const MASKS: usize = 32;
+
+const ELEMENTS: usize = 128;
+
+const SURFACE: usize = 192;
+
+const REGIONS: usize = 8;
+
+const WORDS: usize = 8192;
+
+const FLOATS: usize = 320;
 
 // The five buffers of a mesh.
 #[derive(Clone, Drop)]
@@ -49,13 +71,13 @@ fn put<T: Copy>(buffer: &mut [T], front: &[T]) {
 
 impl Buffers {
     // The five lists, whole buffers or the fronts of them.
-    pub fn read(alloc: Global, words: &mut Words) -> Result<Buffers, ReadError> {
+    pub fn read(alloc: Global, words: &mut Words) -> Result<Buffers, AllocError> {
         Ok(Buffers {
-            parameters: words.named(alloc, "parameters")?,
-            points: words.named(alloc, "points")?,
-            masks: masks(alloc, &words.named::<Mask>(alloc, "masks")?)?,
-            elements: words.named(alloc, "elements")?,
-            surface: words.named(alloc, "surface")?,
+            parameters: words.named(alloc, PARAMETERS)?,
+            points: words.named(alloc, POINTS)?,
+            masks: masks(alloc, &words.named::<Mask>(alloc, MASKS)?)?,
+            elements: words.named(alloc, ELEMENTS)?,
+            surface: words.named(alloc, SURFACE)?,
         })
     }
 
@@ -105,10 +127,10 @@ impl Done {
     }
 
     // What a pass made, or the number of its refusal.
-    fn of(answer: Result<Made, Refusal>) -> Result<Done, u32> {
+    fn of(answer: Result<Made, Refusal>) -> Result<Done, u64> {
         answer
             .map(|made| Done::new(made.count, made.sizes))
-            .map_err(u32::from)
+            .map_err(|refusal| u64::from(u32::from(refusal)))
     }
 }
 
@@ -117,14 +139,14 @@ pub(crate) fn read_answer(
     alloc: Global,
     words: &mut Words,
     expected: &mut Buffers,
-) -> Result<Result<Done, u32>, ReadError> {
-    words.pass("answer")?;
-    let number = words.parse::<u32>()?;
+) -> Result<Result<Done, u64>, AllocError> {
+    words.skip();
+    let number: u64 = words.read();
     if number != 0 {
         return Ok(Err(number));
     }
-    let count = words.read()?;
-    let done = Done::new(count, words.read()?);
+    let count = words.read();
+    let done = Done::new(count, words.read());
     expected.put(&Buffers::read(alloc, words)?);
     Ok(Ok(done))
 }
@@ -140,57 +162,67 @@ pub(crate) struct Call {
     floats: usize,
 }
 
-fn read_options(words: &mut Words) -> Result<Options, ReadError> {
-    words.pass("box")?;
-    let bounds = words.read()?;
-    words.pass("cells")?;
-    let cells = words.read()?;
-    words.pass("periodic")?;
-    let periodic = words.read()?;
-    words.pass("passes")?;
-    Ok(Options {
+// The box and what stands beside it, each behind its name.
+fn read_options(words: &mut Words) -> Options {
+    words.skip();
+    let bounds = words.read();
+    words.skip();
+    let cells = words.read();
+    words.skip();
+    let periodic = words.read();
+    words.skip();
+    Options {
         bounds,
         cells,
         periodic,
-        passes: words.read()?,
-    })
-}
-
-// At most eight fields, of which the count may say more.
-fn read_fields(words: &mut Words, count: u32) -> Result<[Field; 8], ReadError> {
-    let mut fields = [Field::Level(0.0); 8];
-    for field in fields.iter_mut().take(count as usize) {
-        *field = words.read()?;
+        passes: words.read(),
     }
-    Ok(fields)
 }
 
-fn read_regions(alloc: Global, words: &mut Words) -> Result<Option<Vec<u32>>, ReadError> {
-    words.pass("regions")?;
-    if words.parse::<u32>()? == 0 {
+// How many fields there are, and at most eight of them, which the count may be above.
+fn read_fields(words: &mut Words) -> (u32, [Field; 8]) {
+    words.skip();
+    let number: u64 = words.read();
+    let count = low_half(number);
+    let mut fields = [Field::Level(0.0); 8];
+    for (j, field) in (0..number).zip(fields.iter_mut()) {
+        let read = words.read();
+        if j < u64::from(count) {
+            *field = read;
+        }
+    }
+    (count, fields)
+}
+
+// The regions where the number before them is 1; they stand also behind another one that isn't 0.
+fn read_regions(alloc: Global, words: &mut Words) -> Result<Option<Vec<u32>>, AllocError> {
+    words.skip();
+    let number: u64 = words.read();
+    if number == 0 {
         return Ok(None);
     }
-    let n = words.count()?;
-    Ok(Some(masks(alloc, &words.list::<Mask>(alloc, n)?)?))
+    let regions = words.front::<Mask>(alloc, REGIONS)?;
+    if number != 1 {
+        return Ok(None);
+    }
+    Ok(Some(masks(alloc, &regions)?))
 }
 
 impl Call {
     // The call of this pass, whose other words follow.
-    pub fn read(alloc: Global, pass: Pass, words: &mut Words) -> Result<Call, ReadError> {
-        let options = read_options(words)?;
-        words.pass("fields")?;
-        let count = words.read()?;
-        let fields = read_fields(words, count)?;
+    pub fn read(alloc: Global, pass: Pass, words: &mut Words) -> Result<Call, AllocError> {
+        let options = read_options(words);
+        let (count, fields) = read_fields(words);
         let regions = read_regions(alloc, words)?;
-        words.pass("work")?;
+        words.skip();
         Ok(Call {
             pass,
             options,
             count,
             fields,
             regions,
-            words: words.count()?,
-            floats: words.count()?,
+            words: words.count().min(WORDS),
+            floats: words.count().min(FLOATS),
         })
     }
 
@@ -200,7 +232,7 @@ impl Call {
         alloc: Global,
         sizes: Sizes,
         mesh: &mut Buffers,
-    ) -> Result<(Result<Done, u32>, bool), AllocError> {
+    ) -> Result<(Result<Done, u64>, bool), AllocError> {
         let mut work = vec![in alloc; 7u32; self.words]?;
         let mut floats = vec![in alloc; 7.0; self.floats]?;
         let answer = self.answer(sizes, mesh, &mut work, &mut floats);

@@ -1,12 +1,18 @@
 // A line of data/units.txt about the link test: the edge, the number of elements and their words, the number of vertices and their strata,
 // = and 0 or 1.
-use crate::words::{Pattern, ReadError, Words};
+use crate::words::{Pattern, Words};
 use geometry::bounds::Bounds;
 use geometry::point::Point;
 use mesh::strata::Strata;
 use mesh::vertex::Points;
 use mesh::words::{high_half, low_half};
 use std::alloc::{AllocError, Global};
+
+// The most elements and the most vertices of a line; of one that says more none is read.
+const MOST: usize = 64;
+
+// How many words the link test has for its work.
+const AREA: usize = 6144;
 
 // The coordinate on lo of the unit box (bit 1 of two), on hi (bit 2), or between them.
 fn side(bits: u32) -> f64 {
@@ -45,29 +51,36 @@ fn parameters_of(alloc: Global, strata: &[Pattern]) -> Result<Vec<[f64; 3]>, All
     strata.iter().map(|s| parameters(s.0)).collect(alloc)
 }
 
+// The stratum of a vertex, no bits past the last.
+fn stratum(strata: &[Pattern], v: usize) -> u64 {
+    strata.get(v).map_or(0, |s| s.0)
+}
+
 // Whether the bits of the edge's first vertex are among the second's: `improve` asks for the link test only then, and so does `Strata::link_ok_in`.
-fn is_asked(strata: &[Pattern], a: usize, b: usize) -> bool {
-    match (strata.get(a), strata.get(b)) {
-        (Some(a), Some(b)) => a.0 & b.0 == a.0,
-        _ => false,
-    }
+// The strata are what follows, up to the most there may be: a line may name a vertex behind its last.
+fn is_asked(alloc: Global, words: &Words, a: usize, b: usize) -> Result<bool, AllocError> {
+    let mut ahead = *words;
+    let strata = ahead.list::<Pattern>(alloc, MOST + 1)?;
+    let first = stratum(&strata, a);
+    Ok(first & stratum(&strata, b) == first)
 }
 
 // Whether the link test gives the line's answer, and nothing where it is not asked.
-pub(crate) fn link_agrees(alloc: Global, words: &mut Words) -> Result<Option<bool>, ReadError> {
-    let a = words.parse::<u32>()?;
-    let b = words.parse::<u32>()?;
-    let n = words.count()?;
+pub(crate) fn link_agrees(alloc: Global, words: &mut Words) -> Result<Option<bool>, AllocError> {
+    let a: usize = words.read();
+    let b: usize = words.read();
+    let n = words.count_to(MOST).unwrap_or(0);
     let mut area = words.list::<u32>(alloc, 4 * n)?;
-    area.resize(88 * n, 0)?;
-    let nv = words.count()?;
-    let strata = words.list::<Pattern>(alloc, nv)?;
-    if !is_asked(&strata, a as usize, b as usize) {
+    area.resize(AREA, 0)?;
+    let nv = words.count_to(MOST).unwrap_or(0);
+    if !is_asked(alloc, words, a, b)? {
         return Ok(None);
     }
+    let strata = words.list::<Pattern>(alloc, nv)?;
     let masks = masks_of(alloc, &strata)?;
     let parameters = parameters_of(alloc, &strata)?;
     let parameters = Points::new(parameters.as_flattened(), nv);
-    let ok = Strata::new(&masks, parameters, UNIT_BOX).link_ok_in(&mut area, n, a, b);
-    Ok(Some(ok == words.answer::<bool>()?))
+    let strata = Strata::new(&masks, parameters, UNIT_BOX);
+    let ok = strata.link_ok_in(&mut area, n, (a % MOST) as u32, (b % MOST) as u32);
+    Ok(Some(ok == words.answer()))
 }

@@ -5,32 +5,35 @@
 mod call;
 mod calls;
 mod link;
+mod pieces;
 mod project;
 mod surface;
 mod tally;
 mod unit;
 mod words;
 
-use crate::calls::replay;
+use crate::pieces::replay_file;
 use crate::tally::Tally;
 use crate::unit::Unit;
-use crate::words::Words;
-use anyhow::{Context, Result};
-use std::alloc::Global;
-use std::fs;
+use crate::words::{Lines, Words};
+use input::read_full;
+use std::alloc::{AllocError, Global};
 use std::rt::Files;
+use std::{fs, io};
 
-// How many lines of each function agree and differ; a line that begins with another word is passed over.
-fn count_units(alloc: Global, text: &str) -> Result<[Tally; 14]> {
+// How many bytes of units.txt are read.
+const UNITS: usize = 262_144;
+
+// How many lines of each function agree and differ; a line that names none is passed over.
+fn count_units(alloc: Global, text: &[u8]) -> Result<[Tally; 14], AllocError> {
     let mut tallies = [Tally::default(); 14];
-    for line in text.lines() {
-        let mut words = Words::of(line);
-        let Ok(unit) = words.parse::<Unit>() else {
+    for line in Lines::of(text) {
+        let Some(unit) = Unit::named(line) else {
             continue;
         };
-        let agrees = unit
-            .agrees(alloc, &mut words)
-            .context(format_args!("units.txt: {line}"))?;
+        let mut words = Words::of_line(line);
+        words.skip();
+        let agrees = unit.agrees(alloc, &mut words)?;
         if let (Some(agrees), Some(tally)) = (agrees, tallies.get_mut(unit as usize)) {
             tally.count(agrees);
         }
@@ -38,26 +41,27 @@ fn count_units(alloc: Global, text: &str) -> Result<[Tally; 14]> {
     Ok(tallies)
 }
 
-fn replay_units(rt: &(impl Files + Print + Alloc), alloc: Global) -> Result<()> {
-    let text = fs::read_to_string(rt, "units.txt")?;
-    let tallies = count_units(alloc, text.as_str())?;
+fn replay_units(rt: &(impl Files + Print), alloc: Global) -> io::Result<()> {
+    let mut file = fs::open(rt, "units.txt")?;
+    let mut buffer = vec![in alloc; 0u8; UNITS]?;
+    let n = read_full(&mut file, &mut buffer)?;
+    let tallies = count_units(alloc, &buffer[..n])?;
     for (unit, tally) in Unit::ALL.into_iter().zip(tallies) {
         println!(rt; "{unit}: agree {}, differ {}", tally.agree, tally.differ)?;
     }
     Ok(())
 }
 
-fn replay_passes(rt: &(impl Files + Print + Alloc), alloc: Global) -> Result<()> {
-    let text = fs::read_to_string(rt, "passes.txt")?;
-    let tally = replay(alloc, text.as_str()).context("passes.txt")?;
+fn replay_passes(rt: &(impl Files + Print), alloc: Global) -> io::Result<()> {
+    let mut file = fs::open(rt, "passes.txt")?;
+    let tally = replay_file(alloc, &mut file)?;
     println!(rt;
         "calls: agree {}, differ {}, not replayed {}",
         tally.agree, tally.differ, tally.left
-    )?;
-    Ok(())
+    )
 }
 
-fn main(rt: HostRuntime) -> Result<()> {
+fn main(rt: HostRuntime) -> io::Result<()> {
     let alloc = rt.alloc();
     replay_units(&rt, alloc)?;
     replay_passes(&rt, alloc)

@@ -1,4 +1,5 @@
 // Counts of what was compared.
+ghost use Rattle.std.specs.Prelude.{◌<◌};
 
 // How many agree, differ, and are not replayed.
 #[derive(Clone, Copy, Debug, Default, PartialEq, Eq)]
@@ -6,6 +7,17 @@ pub(crate) struct Tally {
     pub agree: u64,
     pub differ: u64,
     pub left: u64,
+}
+
+// A count and more; where it is large already it stays.
+fn plus(count: u64, more: u64) -> u64
+    requires { more < 65536 }
+{
+    if count <= u64::from(u32::MAX) {
+        count + more
+    } else {
+        count
+    }
 }
 
 impl Tally {
@@ -18,9 +30,11 @@ impl Tally {
         *n = n.saturating_add(1);
     }
 
-    pub fn add(&mut self, other: Tally) {
-        self.agree = self.agree.saturating_add(other.agree);
-        self.differ = self.differ.saturating_add(other.differ);
-        self.left = self.left.saturating_add(other.left);
+    pub fn add(&mut self, other: Tally)
+        requires { (other.agree < 65536) × (other.differ < 65536) × (other.left < 65536) }
+    {
+        self.agree = plus(self.agree, other.agree);
+        self.differ = plus(self.differ, other.differ);
+        self.left = plus(self.left, other.left);
     }
 }
