@@ -1,5 +1,4 @@
 // Counts of what was compared.
-ghost use Rattle.std.specs.Prelude.{◌<◌};
 
 // How many agree, differ, and are not replayed.
 #[derive(Clone, Copy, Debug, Default, PartialEq, Eq)]
@@ -10,11 +9,9 @@ pub(crate) struct Tally {
 }
 
 // A count and more; where it is large already it stays.
-fn plus(count: u64, more: u64) -> u64
-    requires { more < 65536 }
-{
+fn plus(count: u64, more: u64) -> u64 {
     if count <= u64::from(u32::MAX) {
-        count + more
+        count.saturating_add(more)
     } else {
         count
     }
@@ -30,9 +27,7 @@ impl Tally {
         *n = n.saturating_add(1);
     }
 
-    pub fn add(&mut self, other: Tally)
-        requires { (other.agree < 65536) × (other.differ < 65536) × (other.left < 65536) }
-    {
+    pub fn add(&mut self, other: Tally) {
         self.agree = plus(self.agree, other.agree);
         self.differ = plus(self.differ, other.differ);
         self.left = plus(self.left, other.left);
